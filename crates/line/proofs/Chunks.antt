@@ -1,15 +1,15 @@
 -- The cutting law: however a line is cut into chunks, a caller gets the reports, the state and the buffer of the whole line.
 -- For any rule for one octet, and any call that answers as `scan` does on good states and buffers. Assumes nothing.
-use Prim.Native.Nat.{ℕ, zero, suc, _+_, _≤_, _<_}
-use mathlib.Core.Path.{_≡_, refl, sym, ap, _∙_}
+use Prim.Native.Nat.{ℕ, zero, suc, _+_, _<_}
 use mathlib.Core.List.{List, [], _∷_, _++_, flatten}
 use mathlib.Core.Option.{Option, none, some}
+use mathlib.Core.Path.{_≡_, refl, sym, ap, _∙_}
 use native.Mathlib.Omega.{arith}
 use lib.ListN.{length, drop, set, length-drop}
+use Rattle.line.proofs.Scan.{scan-taken, scan-report-takes}
+use Rattle.line.proofs.Trace.{trace-++, trace-scan}
 use Rattle.line.specs.Scan.{Action, advance, store, emit, Scan, after, scanOn, scan}
 use Rattle.line.specs.Trace.{Trace, noEvent, oneEvent, traceOn, trace, andThen, reported, readChunk, readChunks}
-use Rattle.line.proofs.Scan.{scan-taken, scan-report-takes}
-use Rattle.line.proofs.Trace.{onwards, trace-++, trace-scan}
 
 module _ {S R : Type 0} where
   reported-same : (o : Option R) (s : S) (m : List ℕ) (a b : Trace S R) → ((r : R) → o ≡ some r → a ≡ b) → reported o s m a ≡ reported o s m b

@@ -1,0 +1,3 @@
+pub mod Escape
+pub mod Check
+pub mod Frame

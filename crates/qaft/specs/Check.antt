@@ -1,0 +1,12 @@
+-- QAFT: the check octet. Cited by the check's and the frame's definitions. Assumes nothing.
+use Prim.Native.Nat.{ℕ, _+_, _-_, _%_}
+use mathlib.Core.List.{List, [], _∷_}
+
+-- the sum of octets, of any size
+unfoldable pub sum : List ℕ → ℕ
+sum [] = 0
+sum (x ∷ xs) = x + sum xs
+
+-- "the two's complement of their sum modulo 256"
+unfoldable pub checkOctet : List ℕ → ℕ
+checkOctet d = (256 - sum d % 256) % 256

@@ -1,0 +1,5 @@
+pub mod Limits
+pub mod Answers
+pub mod Escape
+pub mod Check
+pub mod Frame

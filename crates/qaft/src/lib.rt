@@ -1,0 +1,72 @@
+// QAFT: what writer and reader share. The octets with a meaning on the line, the limits, which octets a level escapes,
+// and the check octet. Definitions: specs/Escape, specs/Check; a frame and a line of frames: specs/Frame.
+ghost use mathlib.Core.Path.{_≡_};
+ghost use Prim.Native.Nat.{_-_, _%_};
+ghost use Rattle.qaft.specs.Escape.{isEscaped};
+ghost use Rattle.qaft.specs.Check.{checkOctet};
+
+pub const FLAG: u8 = 0x7E;
+
+pub const ESCAPE: u8 = 0x7D;
+
+// Flow control of the serial line.
+pub const XON: u8 = 0x11;
+
+pub const XOFF: u8 = 0x13;
+
+// What an octet is combined with, by exclusive or, behind an escape.
+pub const MASK: u8 = 0x20;
+
+pub const MAX_LEVEL: u8 = 1;
+
+pub const MAX_DATA: usize = 2560;
+
+// The numbers given back (specs/Answers).
+pub const DONE: u8 = 0;
+
+pub const NO_DATA: u8 = 1;
+
+pub const DATA_TOO_LONG: u8 = 2;
+
+pub const OUT_TOO_SMALL: u8 = 3;
+
+pub const BAD_LEVEL: u8 = 6;
+
+// Whether a level escapes an octet.
+pub fn is_escaped(level: u8, x: u8) -> bool
+    ensures { λ r. ⌜ r ≡ isEscaped level x ⌝ }
+{
+    if x == FLAG {
+        return true;
+    }
+    if x == ESCAPE {
+        return true;
+    }
+    if level == 1 {
+        if x == XON {
+            return true;
+        }
+        return x == XOFF;
+    }
+    false
+}
+
+// The wrapping negate: the two's complement of an octet.
+fn wrapping_neg_u8(x: u8) -> u8
+    ensures { λ r. ⌜ r ≡ (256 - x % 256) % 256 ⌝ }
+{
+    std::num::wrapping_sub_u8(0, x)
+}
+
+// The check octet of a frame's data: the two's complement of their sum modulo 256.
+pub fn check_octet(octets: &[u8]) -> u8
+    ensures { λ r. ⌜ r ≡ checkOctet (now (octets .entry)) ⌝ }
+{
+    let mut sum: u8 = 0;
+    let mut i = 0;
+    while i < octets.len() {
+        sum = std::num::wrapping_add_u8(sum, octets[i]);
+        i += 1;
+    }
+    wrapping_neg_u8(sum)
+}

@@ -1,0 +1,24 @@
+-- `qaft_write::put_opening` meets its contract. Assumes nothing.
+use mathlib.Core.Bool.{Bool}
+use mathlib.Core.Path.{ap}
+use native.Mathlib.Omega.{arith}
+use borrow.Author.Needs.{needs}
+use lib.ListN.{length}
+use Rattle.qaft.specs.Frame.{opening}
+use Rattle.qaft_write.proofs.put_opening.Statement.{statement}
+use Rattle.qaft_write.proofs.put_opening.Tie as tie
+
+returns : tie.Need-returns
+returns c = search needs
+
+slice-write-out : tie.Need-slice-write-out
+slice-write-out c = omega (arith, ap (λ (f : Bool). length (opening f)) (c .if1 .left), c .before .pre)
+
+same-length : tie.Need-same-length
+same-length c = search needs
+
+returns-2 : tie.Need-returns-2
+returns-2 c = (rw (c .if1 .left), rw (c .if1 .left))
+
+pub put-opening-spec : {M : Type 1} → statement M
+put-opening-spec = tie.close (tie.spec returns slice-write-out same-length returns-2)

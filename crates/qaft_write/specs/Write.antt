@@ -1,0 +1,43 @@
+-- QAFT: what the frame writer answers, and what the out buffer then holds. Cited by its contract. Assumes nothing.
+use Prim.Native.Nat.{ℕ}
+use mathlib.Core.Bool.{Bool}
+use mathlib.Core.List.{List, [], _∷_, _++_}
+use lib.Dec.{ltb, eqb}
+use lib.ListN.{length}
+use Rattle.common.specs.Buffer.{withFront}
+use Rattle.common.specs.Refusals.{Refusal, guarded}
+use Rattle.qaft.specs.Answers.{done, noData, dataTooLong, outTooSmall, badLevel}
+use Rattle.qaft.specs.Escape.{flag, escape}
+use Rattle.qaft.specs.Frame.{opening, frame}
+use Rattle.qaft.specs.Limits.{maxLevel, maxData}
+use Rattle.qaft_write.specs.declared.Written.{Written}
+
+-- a call's outcome: its answer, and the out buffer after it
+pub record Outcome : Type 0 where
+  pub answer : Written
+  pub buffer : List ℕ
+
+-- a refusal with the number n: "changes nothing lent, and every other number in the answer is 0"
+unfoldable pub refusal : (out : List ℕ) (n : ℕ) → Outcome
+refusal out n = record { answer = record { number = n; length = 0 }; buffer = out }
+
+-- octets at the front of the out buffer, "their number in the answer beside 0, and the rest is as before"
+unfoldable pub wrote : (out : List ℕ) → List ℕ → Outcome
+wrote out xs = record { answer = record { number = done; length = length xs }; buffer = withFront xs out }
+
+-- the writer's refusals, "order 6, 1, 2, 3"; room is the length of the out buffer
+unfoldable pub refusals : (level : ℕ) (atFlag : Bool) (d : List ℕ) (room : ℕ) → List Refusal
+refusals level atFlag d room =
+    (ltb maxLevel level, badLevel)
+    ∷ (eqb (length d) 0, noData)
+    ∷ (ltb maxData (length d), dataTooLong)
+    ∷ (ltb room (length (frame level atFlag d)), outTooSmall)
+    ∷ []
+
+-- the frame writer
+unfoldable pub writeFrame : (level : ℕ) (atFlag : Bool) (d out : List ℕ) → Outcome
+writeFrame level atFlag d out = guarded (refusals level atFlag d (length out)) (refusal out) (wrote out (frame level atFlag d))
+
+-- a frame with a check octet c that was calculated before; it is `frame` where c is the check octet of d
+unfoldable pub frameWith : (level : ℕ) (atFlag : Bool) (d : List ℕ) (c : ℕ) → List ℕ
+frameWith level atFlag d c = opening atFlag ++ (escape level (d ++ (c ∷ [])) ++ (flag ∷ []))
