@@ -1,0 +1,32 @@
+-- The cases that document 01 marks [P], worked on paper, as one table over the definitions that the contracts cite. Assumes nothing.
+use Prim.Native.Nat.{ℕ}
+use mathlib.Core.Path.{_≡_}
+use mathlib.Core.Bool.{false}
+use mathlib.Core.List.{List, [], _∷_}
+use Rattle.qaft.specs.Frame.{frame}
+
+-- a row of the table
+pub data Case : Type 0 where
+  -- the frame writer: level, data, the octets on a line that does not stand at a flag
+  writes : (level : ℕ) (d l : List ℕ) → Case
+
+-- what a row claims
+abbrev pub Holds : Case → Type 0
+Holds (writes level d l) = frame level false d ≡ l
+
+-- every row of a list holds
+abbrev pub Each : List Case → Type 0
+Each [] = Unit
+Each (k ∷ ks) = Holds k × Each ks
+
+-- "Worked on paper", in the paper's order
+unfoldable pub table : List Case
+table =
+    writes 0 (0x41 ∷ []) (0x7E ∷ 0x41 ∷ 0xBF ∷ 0x7E ∷ [])
+    ∷ writes 0 (0x7E ∷ []) (0x7E ∷ 0x7D ∷ 0x5E ∷ 0x82 ∷ 0x7E ∷ [])
+    ∷ writes 0 (0x82 ∷ []) (0x7E ∷ 0x82 ∷ 0x7D ∷ 0x5E ∷ 0x7E ∷ [])
+    ∷ writes 0 (0x00 ∷ []) (0x7E ∷ 0x00 ∷ 0x00 ∷ 0x7E ∷ [])
+    ∷ writes 0 (0x11 ∷ []) (0x7E ∷ 0x11 ∷ 0xEF ∷ 0x7E ∷ [])
+    ∷ writes 1 (0x11 ∷ []) (0x7E ∷ 0x7D ∷ 0x31 ∷ 0xEF ∷ 0x7E ∷ [])
+    ∷ writes 1 (0xED ∷ []) (0x7E ∷ 0xED ∷ 0x7D ∷ 0x33 ∷ 0x7E ∷ [])
+    ∷ []
