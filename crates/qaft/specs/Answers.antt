@@ -14,6 +14,33 @@ dataTooLong = 2
 abbrev pub outTooSmall : ℕ
 outTooSmall = 3
 
+-- reader: buffer under 2,561 octets; state that is not well formed
+abbrev pub bufferTooSmall : ℕ
+bufferTooSmall = 4
+
+abbrev pub badState : ℕ
+badState = 5
+
 -- writer and reader: level not 0 or 1
 abbrev pub badLevel : ℕ
 badLevel = 6
+
+-- reader's reports: "frame, aborted, long, short, bad check"
+abbrev pub frameRead : ℕ
+frameRead = 10
+
+abbrev pub aborted : ℕ
+aborted = 11
+
+abbrev pub tooLong : ℕ
+tooLong = 12
+
+abbrev pub tooShort : ℕ
+tooShort = 13
+
+abbrev pub badCheck : ℕ
+badCheck = 14
+
+-- "portion used up without a report"
+abbrev pub usedUp : ℕ
+usedUp = 15

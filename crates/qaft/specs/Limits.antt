@@ -13,6 +13,17 @@ maxData = 2560
 abbrev pub checkSize : ℕ
 checkSize = 1
 
+-- the octets of a segment (the paper's "stretch"), escapes undone: a frame has 2 to 2,561, data and check
+abbrev pub minSegment : ℕ
+minSegment = 1 + checkSize
+
+abbrev pub maxSegment : ℕ
+maxSegment = maxData + checkSize
+
+-- the reader's count: "2,562 stands for all above"
+abbrev pub countCap : ℕ
+countCap = maxSegment + 1
+
 -- "one frame takes at most 5,124 octets": two flags, and each octet of data and check escaped
 abbrev pub maxFrame : ℕ
 maxFrame = 2 * (maxData + checkSize) + 2

@@ -21,6 +21,11 @@ pub const MAX_LEVEL: u8 = 1;
 
 pub const MAX_DATA: usize = 2560;
 
+// The octets of a segment that is a frame, escapes undone: data and check.
+pub const MIN_SEGMENT: usize = 2;
+
+pub const MAX_SEGMENT: usize = 2561;
+
 // The numbers given back (specs/Answers).
 pub const DONE: u8 = 0;
 
@@ -30,7 +35,23 @@ pub const DATA_TOO_LONG: u8 = 2;
 
 pub const OUT_TOO_SMALL: u8 = 3;
 
+pub const BUFFER_TOO_SMALL: u8 = 4;
+
+pub const BAD_STATE: u8 = 5;
+
 pub const BAD_LEVEL: u8 = 6;
+
+pub const FRAME: u8 = 10;
+
+pub const ABORTED: u8 = 11;
+
+pub const TOO_LONG: u8 = 12;
+
+pub const TOO_SHORT: u8 = 13;
+
+pub const BAD_CHECK: u8 = 14;
+
+pub const USED_UP: u8 = 15;
 
 // Whether a level escapes an octet.
 pub fn is_escaped(level: u8, x: u8) -> bool

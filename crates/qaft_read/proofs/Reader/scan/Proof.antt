@@ -1,0 +1,121 @@
+-- `qaft_read::Reader::scan` meets its contract. The loop's invariant: what is left of the chunk gives what the whole gives, i octets on. Assumes nothing.
+use Prim.Native.Nat.{_-_, _≤_}
+use mathlib.Core.Path.{_≡_, refl, sym, ap, _∙_}
+use native.Mathlib.Omega.{arith}
+use borrow.Author.Needs.{needs}
+use lib.ListN.{length, drop, getD, length-set}
+use Rattle.line.proofs.Scan.{after-zero, scan-end, scan-advance, scan-store, scan-emit}
+use Rattle.line.specs.Scan.{Scan, after, scan}
+use Rattle.qaft_read.proofs.Reader.scan.Statement.{statement}
+use Rattle.qaft_read.proofs.Reader.scan.Tie as tie
+use Rattle.qaft_read.proofs.Steps.{step-index}
+use Rattle.qaft_read.specs.Read.{action, actionOf, outcomeOf, callOf, scanCall}
+use Rattle.qaft_read.specs.declared.Action.{Action}
+use Rattle.qaft_read.specs.declared.Reader.{Reader}
+use Rattle.qaft_read.specs.declared.Report.{Report}
+
+abbrev Inv-loop : tie.InvT-loop
+Inv-loop chunk buffer₀ r₀ i₀ buffer r i =
+    (i ≤ length chunk)
+    × (length buffer ≡ length buffer₀)
+    × (scan action r₀ chunk buffer₀ ≡ after i (scan action r (drop i chunk) buffer))
+
+abbrev μ-loop : tie.MeasureT-loop
+μ-loop chunk buffer₀ r₀ i₀ buffer r i = length chunk - i
+
+-- the action of the octet that was read, by the step's result
+taken-action : (c : tie.After-step Inv-loop μ-loop) (a : Action) → c .step .result ≡ a
+    → action (c .before .before .before .loop .r) (getD (c .before .before .before .before .before .before .args .chunk .now) (c .before .before .before .loop .i) 0) ≡ actionOf a
+unfolding action
+taken-action c a e = ap actionOf (sym (c .step .ensures) ∙ e)
+
+loop-holds : tie.Need-loop-holds Inv-loop μ-loop
+loop-holds c = (omega arith, refl, after-zero _)
+
+shared-slice-read-x : tie.Need-shared-slice-read-x Inv-loop μ-loop
+shared-slice-read-x c = search needs
+
+add-i : tie.Need-add-i Inv-loop μ-loop
+add-i c = search needs
+
+step-requires : tie.Need-step-requires Inv-loop μ-loop
+step-requires c κs = search needs
+
+enum-known-action : tie.Need-enum-known-action Inv-loop μ-loop
+enum-known-action c = search needs
+
+loop-less : tie.Need-loop-less Inv-loop μ-loop
+loop-less c = search needs
+
+loop-again : tie.Need-loop-again Inv-loop μ-loop
+unfolding actionOf
+loop-again c =
+    let d = c .before .before .before in
+    let l = d .before .before .before .loop in
+    (omega arith, l .inv .1, l .inv .2 ∙ scan-advance action (l .r) _ (l .i) (l .buffer) (d .before .before .loop-test .taken) _ (taken-action d _ (c .before .action .given .1)))
+
+enum-known-action-2 : tie.Need-enum-known-action-2 Inv-loop μ-loop
+enum-known-action-2 c = search needs
+
+slice-write-buffer : tie.Need-slice-write-buffer Inv-loop μ-loop
+slice-write-buffer c =
+    let d = c .before .before .before in
+    let l = d .before .before .before .loop in
+    omega (arith, step-index _ _ _ _ _ (sym (d .step .ensures) ∙ c .before .action2 .given .1), l .inv .1, d .before .before .before .before .before .before .pre)
+
+loop-less-2 : tie.Need-loop-less-2 Inv-loop μ-loop
+loop-less-2 c = search needs
+
+loop-again-2 : tie.Need-loop-again-2 Inv-loop μ-loop
+unfolding actionOf
+loop-again-2 c =
+    let d = c .before .before .before in
+    let l = d .before .before .before .loop in
+    (omega arith, simp length-set (l .inv .1), l .inv .2 ∙ scan-store action (l .r) _ (l .i) (l .buffer) (d .before .before .loop-test .taken) _ _ _ (taken-action d _ (c .before .action2 .given .1)))
+
+enum-known-action-3 : tie.Need-enum-known-action-3 Inv-loop μ-loop
+enum-known-action-3 c = search needs
+
+same-length : tie.Need-same-length Inv-loop μ-loop
+same-length c = c .before .before .before .before .before .before .loop .inv .1
+
+returns : tie.Need-returns Inv-loop μ-loop
+unfolding actionOf scanCall callOf outcomeOf
+returns c =
+    let d = c .before .before .before in
+    let l = d .before .before .before .loop in
+    let e = l .inv .2 ∙ scan-emit action (l .r) _ (l .i) (l .buffer) (d .before .before .loop-test .taken) _ _ (taken-action d _ (c .before .action3 .given .1)) in
+    (sym (ap (λ (u : Scan Reader Report). callOf u .answer) e), sym (ap (λ (u : Scan Reader Report). u .buffer) e))
+
+same-length-2 : tie.Need-same-length-2 Inv-loop μ-loop
+same-length-2 c = c .before .loop .inv .1
+
+returns-2 : tie.Need-returns-2 Inv-loop μ-loop
+unfolding scanCall callOf outcomeOf
+returns-2 c =
+    let l = c .before .loop in
+    let e = l .inv .2 ∙ scan-end action (l .r) _ (l .i) (l .buffer) (c .loop-test .left) in
+    (sym (ap (λ (u : Scan Reader Report). callOf u .answer) e), sym (ap (λ (u : Scan Reader Report). u .buffer) e))
+
+pub scan-spec : {M : Type 1} → statement M
+scan-spec =
+    tie.close
+    (tie.spec
+    Inv-loop
+    μ-loop
+    loop-holds
+    shared-slice-read-x
+    add-i
+    step-requires
+    enum-known-action
+    loop-less
+    loop-again
+    enum-known-action-2
+    slice-write-buffer
+    loop-less-2
+    loop-again-2
+    enum-known-action-3
+    same-length
+    returns
+    same-length-2
+    returns-2)

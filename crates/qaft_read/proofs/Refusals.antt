@@ -1,0 +1,71 @@
+-- The reader's cases: each refusal, and a call that is not refused; and what every call takes. Assumes nothing.
+use Prim.Native.Nat.{ℕ, _≤_, _<_}
+use mathlib.Core.Bool.{true, false}
+use mathlib.Core.List.{List}
+use mathlib.Core.Option.{Option, none, some}
+use mathlib.Core.Path.{_≡_}
+use native.Mathlib.Omega.{arith}
+use borrow.Author.Tests.{lt-ltb, le-ltb}
+use lib.Dec.{ltb}
+use lib.ListN.{length}
+use Rattle.common.proofs.Bools.{either}
+use Rattle.line.proofs.Scan.{scan-taken, scan-report-takes}
+use Rattle.line.specs.Scan.{scan}
+use Rattle.qaft.specs.Answers.{bufferTooSmall, badState, badLevel}
+use Rattle.qaft.specs.Limits.{maxLevel, maxSegment}
+use Rattle.qaft_read.specs.Read.{action, Call, outcomeOf, callOf, scanCall, refusal, refusals, read}
+use Rattle.qaft_read.specs.State.{malformed}
+use Rattle.qaft_read.specs.declared.Outcome.the-variants.{Reported}
+use Rattle.qaft_read.specs.declared.Reader.{Reader}
+use Rattle.qaft_read.specs.declared.Report.{Report}
+
+module _ (r : Reader) (xs m : List ℕ) where
+  pub read-badLevel : maxLevel < r .level → read r xs m ≡ refusal r m badLevel
+  unfolding read refusals
+  read-badLevel h = simp (lt-ltb _ _ h)
+
+  module _ (h : r .level ≤ maxLevel) where
+    pub read-bufferTooSmall : length m < maxSegment → read r xs m ≡ refusal r m bufferTooSmall
+    unfolding read refusals
+    read-bufferTooSmall k = simp (le-ltb _ _ h, lt-ltb _ _ k)
+
+    module _ (k : maxSegment ≤ length m) where
+      pub read-badState : malformed r ≡ true → read r xs m ≡ refusal r m badState
+      unfolding read refusals
+      read-badState e = simp (le-ltb _ _ h, le-ltb _ _ k, e)
+
+      pub read-scan : malformed r ≡ false → read r xs m ≡ scanCall r xs m
+      unfolding read refusals
+      read-scan e = simp (le-ltb _ _ h, le-ltb _ _ k, e)
+
+  -- what holds of every refusal and of a scan holds of a call
+  pub read-ind : (P : Call → Type 0) → ((n : ℕ) → P (refusal r m n)) → P (scanCall r xs m) → P (read r xs m)
+  unfolding read refusals
+  read-ind P f s =
+      either P (ltb maxLevel (r .level)) (λ _. f badLevel)
+      (λ _. either P (ltb (length m) maxSegment) (λ _. f bufferTooSmall) (λ _. either P (malformed r) (λ _. f badState) (λ _. s)))
+
+  -- a call takes no more than the chunk
+  pub read-taken : read r xs m .answer .taken ≤ length xs
+  unfolding refusal scanCall callOf
+  read-taken = read-ind (λ (k : Call). k .answer .taken ≤ length xs) (λ _. omega arith) (scan-taken action xs r m)
+
+some-reported : (o : Option Report) (p : Report) → outcomeOf o ≡ Reported p → o ≡ some p
+unfolding outcomeOf
+some-reported none p e = cc
+some-reported (some q) p e = cc
+
+abbrev Takes : Report → Call → Type 0
+Takes p k = k .answer .outcome ≡ Reported p → 0 < k .answer .taken
+
+refusal-takes : (p : Report) (r : Reader) (m : List ℕ) (n : ℕ) → Takes p (refusal r m n)
+unfolding refusal
+refusal-takes p r m n e = let z : _≡_ {A = ℕ} 0 1 = cc in omega arith
+
+scanCall-takes : (p : Report) (r : Reader) (xs m : List ℕ) → Takes p (scanCall r xs m)
+unfolding scanCall callOf
+scanCall-takes p r xs m e = scan-report-takes action xs r m p (some-reported (scan action r xs m .report) p e)
+
+-- a call that reports takes an octet
+pub read-report-takes : (p : Report) (r : Reader) (xs m : List ℕ) → read r xs m .answer .outcome ≡ Reported p → 0 < read r xs m .answer .taken
+read-report-takes p r xs m = read-ind r xs m (Takes p) (refusal-takes p r m) (scanCall-takes p r xs m)
