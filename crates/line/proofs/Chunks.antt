@@ -81,3 +81,16 @@ module _ {S R : Type 0} (f : S → ℕ → Action S R) where
         pub cuttings-agree : (xss yss : List (List ℕ)) (s : S) (m : List ℕ) → Good s m → flatten xss ≡ flatten yss → readChunks g s xss m ≡ readChunks g s yss m
         cuttings-agree xss yss s m ok e =
             readChunks-trace xss s m ok ∙ ap (λ (l : List ℕ). trace f s l m) e ∙ sym (readChunks-trace yss s m ok)
+
+-- a call that does nothing, whatever the chunk: the caller gets nothing, however the line is cut
+module _ {S R : Type 0} (g : S → List ℕ → List ℕ → Scan S R) (s : S) (m : List ℕ)
+    (idle : (xs : List ℕ) → g s xs m ≡ record { report = none; taken = 0; state = s; buffer = m }) where
+  readChunk-idle : (n : ℕ) (xs : List ℕ) → readChunk g n s xs m ≡ noEvent s m
+  unfolding readChunk
+  readChunk-idle zero xs = refl
+  readChunk-idle (suc n) xs = rw (idle xs)
+
+  pub readChunks-idle : (xss : List (List ℕ)) → readChunks g s xss m ≡ noEvent s m
+  unfolding readChunks andThen noEvent
+  readChunks-idle [] = refl
+  readChunks-idle (xs ∷ xss) = rw (readChunk-idle (suc (length xs)) xs) (readChunks-idle xss)

@@ -2,7 +2,7 @@
 use Prim.Native.Nat.{ℕ, suc, _+_, _≤_, _<_}
 use mathlib.Core.List.{List, [], _∷_}
 use mathlib.Core.Option.{none, some}
-use mathlib.Core.Path.{_≡_, sym, ap, _∙_}
+use mathlib.Core.Path.{_≡_, refl, sym, ap, _∙_}
 use native.Mathlib.Nat.{zero-add, add-zero, add-assoc}
 use native.Mathlib.Numerals.{add-one}
 use native.Mathlib.Omega.{arith}
@@ -67,3 +67,20 @@ module _ {S R : Type 0} (f : S → ℕ → Action S R) where
   unfolding scan
   scan-report-takes [] s m r e = let z : _≡_ {A = ℕ} 0 1 = cc in omega arith
   scan-report-takes (x ∷ xs) s m r e = scanOn-takes (f s x) (λ t n. scan f t xs n) m
+
+-- the buffer decides nothing: calls that differ in it report, take and go on alike
+module _ {S R : Type 0} where
+  -- a call, its buffer set aside
+  unfoldable pub apart : Scan S R → Scan S R
+  apart u = record { report = u .report; taken = u .taken; state = u .state; buffer = [] }
+
+  scanOn-apart : (a : Action S R) (k : S → List ℕ → Scan S R) (m n : List ℕ) → ((t : S) (i j : List ℕ) → apart (k t i) ≡ apart (k t j)) → apart (scanOn a k m) ≡ apart (scanOn a k n)
+  unfolding scanOn after apart
+  scanOn-apart (advance t) k m n e = ap (after 1) (e t m n)
+  scanOn-apart (store t i x) k m n e = ap (after 1) (e t (set m i x) (set n i x))
+  scanOn-apart (emit r t) k m n e = refl
+
+  pub scan-apart : (f : S → ℕ → Action S R) (xs : List ℕ) (s : S) (m n : List ℕ) → apart (scan f s xs m) ≡ apart (scan f s xs n)
+  unfolding scan apart
+  scan-apart f [] s m n = refl
+  scan-apart f (x ∷ xs) s m n = scanOn-apart (f s x) (λ t n. scan f t xs n) m n (λ t i j. scan-apart f xs t i j)

@@ -1,16 +1,16 @@
 -- Laws of escaping. Assumes nothing.
 use Prim.Native.Nat.{ℕ, _+_, _*_, _≤_, _<_}
-use mathlib.Core.Bool.{true, false, not, _&&_, _||_}
+use mathlib.Core.Bool.{true, false, _&&_, _||_}
 use mathlib.Core.List.{List, [], _∷_, _++_, append-assoc, List·Memᴰ, List·Memᴰ·append-cases, List·Memᴰ·cases-cons, List·Memᴰ·eq-of-singleton, List·Memᴰ·not-nil}
 use mathlib.Core.Logic.{⊎-elim}
 use mathlib.Core.Path.{_≡_, refl, sym, subst}
 use native.Mathlib.Numerals.{add-one}
 use native.Mathlib.Omega.{arith}
 use borrow.Author.Tests.{eqb-true, eqb-false}
-use lib.Dec.{T, eqb, eqb-refl, T-not}
+use lib.Dec.{eqb}
 use lib.ListN.{length, getD, drop, drop-of-length-le, length-append}
 use lib.Seq.{drop-cons}
-use Rattle.common.proofs.Bools.{either, or-true, or-false-left, and-true-right}
+use Rattle.common.proofs.Bools.{either, or-true, or-false-left, or-false-right, and-true-right}
 use Rattle.qaft.specs.Escape.{flag, escapeOctet, xon, xoff, masked, isEscaped, escapeOne, escape}
 
 module _ (level x : ℕ) where
@@ -58,21 +58,27 @@ isEscaped-ind P level x e a b c d =
     (or-true (eqb x escapeOctet) (eqb level 1 && (eqb x xon || eqb x xoff)) q))
     (or-true (eqb x flag) (eqb x escapeOctet || (eqb level 1 && (eqb x xon || eqb x xoff))) e)
 
--- an octet that is not escaped is no flag
-pub plain-not-flag : (level x : ℕ) → isEscaped level x ≡ false → eqb x flag ≡ false
+-- an octet that is not escaped is no flag and no escape
+pub plain-octet : (level x : ℕ) → isEscaped level x ≡ false → (eqb x flag ≡ false) × (eqb x escapeOctet ≡ false)
 unfolding isEscaped
-plain-not-flag level x e = or-false-left (eqb x flag) (eqb x escapeOctet || (eqb level 1 && (eqb x xon || eqb x xoff))) e
+plain-octet level x e =
+    let rest = or-false-right (eqb x flag) (eqb x escapeOctet || (eqb level 1 && (eqb x xon || eqb x xoff))) e in (
+      or-false-left (eqb x flag) (eqb x escapeOctet || (eqb level 1 && (eqb x xon || eqb x xoff))) e,
+      or-false-left (eqb x escapeOctet) (eqb level 1 && (eqb x xon || eqb x xoff)) rest,
+    )
+
+-- behind its escape an escaped octet is no flag, and masked once more it is itself
+pub escaped-octet : (level x : ℕ) → isEscaped level x ≡ true → (eqb (masked x) flag ≡ false) × (masked (masked x) ≡ x)
+escaped-octet level x e =
+    isEscaped-ind (λ (y : ℕ). (eqb (masked y) flag ≡ false) × (masked (masked y) ≡ y)) level x e (refl, refl) (refl, refl) (refl, refl) (refl, refl)
 
 -- no flag among escaped octets
 escapeOne-no-flag : (level x : ℕ) → List·Memᴰ flag (escapeOne level x) → ⊥
 unfolding escapeOne
 escapeOne-no-flag level x =
     either (λ (ys : List ℕ). List·Memᴰ flag ys → ⊥) (isEscaped level x)
-    (λ e. isEscaped-ind (λ (y : ℕ). List·Memᴰ flag (escapeOctet ∷ masked y ∷ []) → ⊥) level x e (two 0x5E tt) (two 0x5D tt) (two 0x31 tt) (two 0x33 tt))
-    (λ e h. eqb-false x flag (plain-not-flag level x e) (sym (List·Memᴰ·eq-of-singleton h)))
-  where
-    two : (y : ℕ) → T (not (eqb y flag)) → List·Memᴰ flag (escapeOctet ∷ y ∷ []) → ⊥
-    two y t h = ⊎-elim (λ e. omega (arith, e)) (λ k. T-not (eqb y flag) t (subst (λ (z : ℕ). T (eqb y z)) (sym (List·Memᴰ·eq-of-singleton k)) (eqb-refl y))) (List·Memᴰ·cases-cons h)
+    (λ e h. ⊎-elim (λ q. omega (arith, q)) (λ k. eqb-false (masked x) flag (escaped-octet level x e .0) (sym (List·Memᴰ·eq-of-singleton k))) (List·Memᴰ·cases-cons h))
+    (λ e h. eqb-false x flag (plain-octet level x e .0) (sym (List·Memᴰ·eq-of-singleton h)))
 
 pub escape-no-flag : (level : ℕ) (xs : List ℕ) → List·Memᴰ flag (escape level xs) → ⊥
 unfolding escape

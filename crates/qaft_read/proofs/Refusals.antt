@@ -5,7 +5,7 @@ use mathlib.Core.List.{List}
 use mathlib.Core.Option.{Option, none, some}
 use mathlib.Core.Path.{_≡_}
 use native.Mathlib.Omega.{arith}
-use borrow.Author.Tests.{lt-ltb, le-ltb}
+use borrow.Author.Tests.{lt-ltb, le-ltb, ltb-false}
 use lib.Dec.{ltb}
 use lib.ListN.{length}
 use Rattle.common.proofs.Bools.{either}
@@ -18,6 +18,12 @@ use Rattle.qaft_read.specs.State.{malformed}
 use Rattle.qaft_read.specs.declared.Outcome.the-variants.{Reported}
 use Rattle.qaft_read.specs.declared.Reader.{Reader}
 use Rattle.qaft_read.specs.declared.Report.{Report}
+
+-- a reader and a buffer that no call refuses
+pub record Fit (r : Reader) (m : List ℕ) : Type 0 where
+  pub level : r .level ≤ maxLevel
+  pub room : maxSegment ≤ length m
+  pub formed : malformed r ≡ false
 
 module _ (r : Reader) (xs m : List ℕ) where
   pub read-badLevel : maxLevel < r .level → read r xs m ≡ refusal r m badLevel
@@ -38,17 +44,18 @@ module _ (r : Reader) (xs m : List ℕ) where
       unfolding read refusals
       read-scan e = simp (le-ltb _ _ h, le-ltb _ _ k, e)
 
-  -- what holds of every refusal and of a scan holds of a call
-  pub read-ind : (P : Call → Type 0) → ((n : ℕ) → P (refusal r m n)) → P (scanCall r xs m) → P (read r xs m)
+  -- what holds of every refusal, and of a scan where none applies, holds of a call
+  pub read-ind : (P : Call → Type 0) → ((n : ℕ) → P (refusal r m n)) → (Fit r m → P (scanCall r xs m)) → P (read r xs m)
   unfolding read refusals
   read-ind P f s =
       either P (ltb maxLevel (r .level)) (λ _. f badLevel)
-      (λ _. either P (ltb (length m) maxSegment) (λ _. f bufferTooSmall) (λ _. either P (malformed r) (λ _. f badState) (λ _. s)))
+      (λ l. either P (ltb (length m) maxSegment) (λ _. f bufferTooSmall)
+      (λ k. either P (malformed r) (λ _. f badState) (λ e. s (record { level = ltb-false _ _ l; room = ltb-false _ _ k; formed = e }))))
 
   -- a call takes no more than the chunk
   pub read-taken : read r xs m .answer .taken ≤ length xs
   unfolding refusal scanCall callOf
-  read-taken = read-ind (λ (k : Call). k .answer .taken ≤ length xs) (λ _. omega arith) (scan-taken action xs r m)
+  read-taken = read-ind (λ (k : Call). k .answer .taken ≤ length xs) (λ _. omega arith) (λ _. scan-taken action xs r m)
 
 some-reported : (o : Option Report) (p : Report) → outcomeOf o ≡ Reported p → o ≡ some p
 unfolding outcomeOf
@@ -68,4 +75,4 @@ scanCall-takes p r xs m e = scan-report-takes action xs r m p (some-reported (sc
 
 -- a call that reports takes an octet
 pub read-report-takes : (p : Report) (r : Reader) (xs m : List ℕ) → read r xs m .answer .outcome ≡ Reported p → 0 < read r xs m .answer .taken
-read-report-takes p r xs m = read-ind r xs m (Takes p) (refusal-takes p r m) (scanCall-takes p r xs m)
+read-report-takes p r xs m = read-ind r xs m (Takes p) (refusal-takes p r m) (λ _. scanCall-takes p r xs m)
