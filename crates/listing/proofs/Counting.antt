@@ -1,0 +1,25 @@
+-- Laws of the counts: what they are of a whole line. Assumes nothing.
+use Prim.Native.Nat.{ℕ, _+_, _≤_, _<_}
+use mathlib.Core.List.{List, [], _∷_, _++_}
+use mathlib.Core.Path.{_≡_, refl}
+use native.Mathlib.Numerals.{add-one}
+use lib.ListN.{length, getD, drop, drop-of-length-le}
+use lib.Seq.{drop-cons}
+use Rattle.listing.specs.Counts.{count, countAll}
+use Rattle.listing.specs.declared.Counts.{Counts}
+
+-- chunk after chunk is the whole line
+pub countAll-++ : (c : Counts) (xs ys : List ℕ) → countAll c (xs ++ ys) ≡ countAll (countAll c xs) ys
+unfolding countAll
+countAll-++ c [] ys = refl
+countAll-++ c (x ∷ xs) ys = countAll-++ (count c x) xs ys
+
+-- a loop that stands at octet i
+module _ (c : Counts) (xs : List ℕ) (i : ℕ) where
+  pub countAll-end : length xs ≤ i → countAll c (drop i xs) ≡ c
+  unfolding countAll
+  countAll-end h = rw (drop-of-length-le xs h)
+
+  pub countAll-next : i < length xs → countAll c (drop i xs) ≡ countAll (count c (getD xs i 0)) (drop (i + 1) xs)
+  unfolding countAll
+  countAll-next h = rw (add-one i, drop-cons xs i 0 h)

@@ -1,0 +1,27 @@
+-- The listing's counts of raw octets before the first flag and after the last. Cited by `Counts::add`. Assumes nothing.
+use Prim.Native.Nat.{ℕ, _+_, _%_, _^_}
+use mathlib.Core.Bool.{true, false, cond}
+use mathlib.Core.List.{List, [], _∷_}
+use lib.Dec.{eqb}
+use Rattle.listing.specs.declared.Counts.{Counts}
+use Rattle.qaft.specs.Escape.{flag}
+
+-- the counts wrap at 2^64
+abbrev pub next : ℕ → ℕ
+next n = (n + 1) % 2 ^ 64
+
+-- nothing read yet
+abbrev pub none : Counts
+none = record { synced = false; before = 0; after = 0 }
+
+-- one octet more: a flag, after which none stands yet; an octet after a flag; an octet before any
+unfoldable pub count : Counts → (x : ℕ) → Counts
+count c x =
+    cond (eqb x flag) (record { synced = true; before = c .before; after = 0 })
+    (cond (c .synced) (record { synced = true; before = c .before; after = next (c .after) })
+    (record { synced = false; before = next (c .before); after = c .after }))
+
+-- the octets of a chunk
+unfoldable pub countAll : Counts → List ℕ → Counts
+countAll c [] = c
+countAll c (x ∷ xs) = countAll (count c x) xs
