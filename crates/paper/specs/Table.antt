@@ -2,17 +2,22 @@
 use Prim.Native.Nat.{ℕ}
 use mathlib.Core.Path.{_≡_}
 use mathlib.Core.Bool.{false}
-use mathlib.Core.List.{List, [], _∷_}
+use mathlib.Core.List.{List, [], _∷_, _++_}
+use Rattle.qaft.specs.Escape.{flag}
 use Rattle.qaft.specs.Frame.{frame}
+use Rattle.qaft_laws.specs.Reports.{Reported, aborted, short, badCheck, reportsOf}
 
 -- a row of the table
 pub data Case : Type 0 where
   -- the frame writer: level, data, the octets on a line that does not stand at a flag
   writes : (level : ℕ) (d l : List ℕ) → Case
+  -- a stretch between two flags, and its report
+  reports : (s : List ℕ) → Reported → Case
 
 -- what a row claims
 abbrev pub Holds : Case → Type 0
 Holds (writes level d l) = frame level false d ≡ l
+Holds (reports s p) = reportsOf (flag ∷ s ++ (flag ∷ [])) ≡ p ∷ []
 
 -- every row of a list holds
 abbrev pub Each : List Case → Type 0
@@ -29,4 +34,7 @@ table =
     ∷ writes 0 (0x11 ∷ []) (0x7E ∷ 0x11 ∷ 0xEF ∷ 0x7E ∷ [])
     ∷ writes 1 (0x11 ∷ []) (0x7E ∷ 0x7D ∷ 0x31 ∷ 0xEF ∷ 0x7E ∷ [])
     ∷ writes 1 (0xED ∷ []) (0x7E ∷ 0xED ∷ 0x7D ∷ 0x33 ∷ 0x7E ∷ [])
+    ∷ reports (0x10 ∷ 0x7D ∷ []) aborted
+    ∷ reports (0x00 ∷ []) short
+    ∷ reports (0x41 ∷ 0xBE ∷ []) badCheck
     ∷ []
