@@ -1,11 +1,10 @@
 -- `fcs::feed_octets` meets its contract. The invariant: the register so far, with the octets that are left, gives the register after all.
 -- Assumes nothing.
-use mathlib.Core.Path.{_≡_, refl, sym, ap, _∙_}
-use Prim.Native.Nat.{ℕ, _+_, _-_, _%_, _^_, _≤_, _<_}
-use lib.ListN.{length, getD, take, drop}
-use lib.Seq.{length-take-le}
-use Rattle.fcs.specs.Fcs.{feed, feedAll}
-use Rattle.fcs.proofs.Register.{feed-drop, feed-done, feed-part}
+use mathlib.Core.Path.{_≡_, sym, ap, _∙_}
+use Prim.Native.Nat.{ℕ, _+_, _-_, _^_, _≤_, _<_}
+use lib.ListN.{length, drop}
+use Rattle.fcs.specs.Fcs.{feedAll}
+use Rattle.fcs.proofs.Register.{feed-drop, feed-done}
 use native.Mathlib.Omega.{arith}
 use borrow.Author.Needs.{needs}
 use Rattle.fcs.proofs.feed_octets.Statement.{statement}

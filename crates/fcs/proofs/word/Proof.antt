@@ -1,6 +1,5 @@
 -- `fcs::word` meets its contract. Assumes nothing.
 use Rattle.fcs.proofs.Words.{eight-word}
-use native.Mathlib.Omega.{arith}
 use borrow.Author.Needs.{needs}
 use Rattle.fcs.proofs.word.Statement.{statement}
 use Rattle.fcs.proofs.word.Tie as tie

@@ -1,10 +1,10 @@
 -- `sums::afp_sum` meets its contract. The invariant: the sum so far, with the octets that are left, is the whole sum.
-use mathlib.Core.Path.{_≡_, refl, sym, _∙_, ap}
-use Prim.Native.Nat.{_≤_, _-_, _+_}
+use mathlib.Core.Path.{_≡_}
+use Prim.Native.Nat.{_≤_, _-_}
 use native.Mathlib.Omega.{arith}
 use borrow.Author.Needs.{needs}
 use lib.ListN.{length, drop}
-use Rattle.sums.specs.Sum.{endAroundAdd, sumFrom}
+use Rattle.sums.specs.Sum.{sumFrom}
 use Rattle.sums.proofs.Sum.{sum-drop, sum-done}
 use Rattle.sums.proofs.afp_sum.Statement.{statement}
 use Rattle.sums.proofs.afp_sum.Tie as tie

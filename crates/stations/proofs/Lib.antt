@@ -1,0 +1,6 @@
+pub mod Extent
+pub mod Offset
+pub mod Search
+pub mod Fields
+pub mod NextAfter
+pub mod IdList
