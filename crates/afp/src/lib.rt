@@ -14,43 +14,43 @@ const SHORTEST_FRAME: usize = 14;
 
 const LONGEST_FRAME: usize = 2560;
 
-const SHORTEST_HEADER: usize = 12;
+pub const SHORTEST_HEADER: usize = 12;
 
-const LONGEST_HEADER: usize = 254;
+pub const LONGEST_HEADER: usize = 254;
 
-const LONGEST_DATA: usize = 2304;
+pub const LONGEST_DATA: usize = 2304;
 
-const VERSION: u8 = 1;
+pub const VERSION: u8 = 1;
 
-const FIRST_RESERVED: u8 = 0xFE;
+pub const FIRST_RESERVED: u8 = 0xFE;
 
 const NOT_CALCULATED: u8 = 0;
 
 // Where the station fields begin.
-const FIELDS_AT: usize = 5;
+pub const FIELDS_AT: usize = 5;
 
 // Refusals, in their order.
-const BAD_LENGTH: u8 = 30;
+pub const BAD_LENGTH: u8 = 30;
 
-const BAD_CHECK: u8 = 31;
+pub const BAD_CHECK: u8 = 31;
 
-const BAD_VERSION: u8 = 32;
+pub const BAD_VERSION: u8 = 32;
 
-const BAD_PROTOCOL: u8 = 33;
+pub const BAD_PROTOCOL: u8 = 33;
 
-const BAD_OFFSET: u8 = 34;
+pub const BAD_OFFSET: u8 = 34;
 
-const BAD_STATIONS: u8 = 35;
+pub const BAD_STATIONS: u8 = 35;
 
-const BAD_NEXT: u8 = 36;
+pub const BAD_NEXT: u8 = 36;
 
-const BAD_NEXT_SUM: u8 = 37;
+pub const BAD_NEXT_SUM: u8 = 37;
 
-const BAD_SUPPLEMENTARY: u8 = 38;
+pub const BAD_SUPPLEMENTARY: u8 = 38;
 
-const BAD_HEADER_SUM: u8 = 39;
+pub const BAD_HEADER_SUM: u8 = 39;
 
-const BAD_DATA: u8 = 40;
+pub const BAD_DATA: u8 = 40;
 
 // A part of a frame.
 pub struct Part {
