@@ -1,0 +1,7 @@
+pub mod Frames
+pub mod Written
+pub mod Accepted
+pub mod Meanings
+pub mod Changed
+pub mod Theorems
+pub mod Worked
