@@ -1,16 +1,16 @@
 -- The reader's answers from those of its private functions, and the meaning that they show. Assumes nothing.
-use mathlib.Core.Path.{_≡_, refl, sym, ap, ap₂, _∙_}
-use mathlib.Core.Bool.{Bool, true, false, cond, not, _||_}
-use mathlib.Core.List.{List, [], _∷_, _++_}
+use mathlib.Core.Path.{_≡_, sym, ap, ap₂, _∙_}
+use mathlib.Core.Bool.{Bool, false, cond}
+use mathlib.Core.List.{List, _++_}
 use Prim.Native.Nat.{ℕ, _+_, _-_, _≤_, _<_}
 use native.Mathlib.Omega.{arith}
-use borrow.Author.Tests.{ltb-false, eq-eqb, ne-eqb}
-use lib.Dec.{T, leb, ltb, eqb}
-use lib.ListN.{length, getD, take, drop, length-take, length-drop}
+use borrow.Author.Tests.{ltb-false, ne-eqb}
+use lib.Dec.{eqb}
+use lib.ListN.{length, take, drop, length-take, length-drop}
 use lib.Seq.{length-take-le, take-take}
-use Rattle.common.specs.Refusals.{Refusal, guarded}
+use Rattle.common.specs.Refusals.{guarded}
 use Rattle.common.specs.FirstRefusal.{firstRefusal}
-use Rattle.common.proofs.Refusals.{Passed, guarded-done}
+use Rattle.common.proofs.Refusals.{guarded-done}
 use Rattle.common.proofs.FirstRefusal.{first-passed, guarded-++, guarded-first, guarded-map}
 use Rattle.common.proofs.Parts.{drop-take}
 use Rattle.sums.specs.Sum.{notCalculated}
@@ -19,11 +19,10 @@ use Rattle.stations.specs.Fields.{fieldsAt, stationsOf}
 use Rattle.stations.specs.IdList.{idsOf}
 use Rattle.stations.proofs.Extent.{stations-within}
 use Rattle.supplementary.specs.Options.{supplementaryIn}
-use Rattle.afp.specs.Numbers.{shortestFrame, shortestHeader, longestHeader, longestData}
+use Rattle.afp.specs.Numbers.{shortestFrame, shortestHeader, longestHeader}
 use Rattle.afp.specs.Layout.{octet, offset, checkedLength, checkedPart, variablePart, stationsIn, receivedSum, dataLength}
 use Rattle.afp.specs.Reading.{envelopeRefusals, fixedRefusals, stationRefusals, restRefusals, refusals, refusedReading, acceptedReading, readOf}
-use Rattle.afp.specs.Meaning.{Meaning, Verdict, refused, means, meant, meaning, partOf, shown, verdict}
-use Rattle.afp.specs.declared.Part.{Part}
+use Rattle.afp.specs.Meaning.{Meaning, refused, means, meant, meaning, shown, verdict}
 use Rattle.afp.specs.declared.Reading.{Reading}
 use Rattle.afp.proofs.Refusals.{variable-rest}
 

@@ -2,7 +2,7 @@
 --
 --   refusals f   30 to 40 in their order, each with the test that it is given for
 --   readOf f     the reader's answer
-use mathlib.Core.Bool.{Bool, true, false, not}
+use mathlib.Core.Bool.{false, not}
 use mathlib.Core.List.{List, [], _∷_, _++_}
 use Prim.Native.Nat.{ℕ, _+_, _-_}
 use lib.Dec.{leb, ltb, eqb}

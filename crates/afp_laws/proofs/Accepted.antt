@@ -1,12 +1,12 @@
 -- The parts of a frame that the reader accepts can be written; with its header sum calculated the very frame comes back. Assumes nothing.
 use mathlib.Core.Path.{_≡_, refl, sym, ap, ap₂, _∙_}
-use mathlib.Core.Bool.{Bool, true, false, cond, not, _||_}
+use mathlib.Core.Bool.{Bool, true, false, not, _||_}
 use mathlib.Core.List.{List, [], _∷_, _++_}
-use Prim.Native.Nat.{ℕ, zero, suc, _+_, _-_, _*_, _/_, _%_, _≤_, _<_}
+use Prim.Native.Nat.{ℕ, suc, _+_, _-_, _/_, _%_, _≤_, _<_}
 use native.Mathlib.Omega.{arith}
 use borrow.Author.Tests.{ltb-false, leb-false, eqb-true, eqb-false, not-false, le-ltb, lt-leb, eq-eqb, ne-eqb}
-use lib.Dec.{leb, ltb, eqb}
-use lib.ListN.{length, getD, take, drop, length-drop, take-append-drop, drop-of-length-le}
+use lib.Dec.{eqb}
+use lib.ListN.{length, take, drop, length-drop, take-append-drop, drop-of-length-le}
 use lib.Seq.{drop-cons, take-suc, take-add, length-take-le, take-take}
 use Rattle.common.proofs.Refusals.{Passed}
 use Rattle.common.proofs.FirstRefusal.{passed-++, passed-append}
@@ -24,7 +24,7 @@ use Rattle.afp.specs.Layout.{octet, offset, checkedLength, checkedPart, receive
 use Rattle.afp.specs.Reading.{envelopeRefusals, fixedRefusals, stationRefusals, restRefusals, refusals}
 use Rattle.afp.proofs.Answers.{length-variable}
 use Rattle.afp_write.specs.Frame.{headerLength, withCheck, headerBefore, headerOf, frameOf, partRefusals, sizeRefusals, writeRefusals}
-use Rattle.afp_laws.specs.Parts.{Parts, encode, encodeRefusals, partsIn}
+use Rattle.afp_laws.specs.Parts.{encode, encodeRefusals, partsIn}
 
 -- ---- pieces of a list
 pub last-two : (f : List ℕ) → 2 ≤ length f → drop (checkedLength f) f ≡ octet f (checkedLength f) ∷ octet f (length f - 1) ∷ []

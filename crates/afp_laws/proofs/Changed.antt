@@ -1,15 +1,15 @@
 -- A single changed octet of a frame is refused by 31. Assumes nothing.
 use mathlib.Core.Path.{_≡_, refl, sym, ap, ap₂, _∙_}
-use mathlib.Core.Bool.{Bool, true, false, cond, not}
+use mathlib.Core.Bool.{Bool, true, false}
 use mathlib.Core.List.{List, [], _∷_, _++_}
-use Prim.Native.Nat.{ℕ, zero, suc, _+_, _-_, _*_, _/_, _%_, _^_, _≤_, _<_}
+use Prim.Native.Nat.{ℕ, suc, _+_, _-_, _/_, _%_, _≤_, _<_}
 use native.Mathlib.Omega.{arith}
-use borrow.Author.Tests.{le-ltb, ne-eqb, eqb-true, eqb-false, ltb-true, ltb-false}
+use borrow.Author.Tests.{eqb-true, eqb-false, ltb-true, ltb-false}
 use lib.Dec.{eqb, ltb, lit<}
 use lib.ListN.{length, getD, take, drop, set, length-set, take-append-drop, List·getD-eq-default, length-take}
-use lib.Seq.{getD-take, getD-drop, getD-set-same, getD-set-other, set-split, split-at, length-take-le, set-out}
+use lib.Seq.{getD-take, getD-drop, getD-set-same, getD-set-other, set-split, split-at}
 use Rattle.common.specs.Refusals.{guarded}
-use Rattle.fcs.specs.Fcs.{preset, residue, feedAll, checkSequence, checkOctets}
+use Rattle.fcs.specs.Fcs.{preset, residue, feedAll, checkSequence}
 use Rattle.fcs.proofs.Register.{Octets}
 use Rattle.fcs.proofs.Residue.{check-residue, changed-octet}
 use Rattle.afp.specs.Numbers.{shortestFrame, longestFrame, badCheck}

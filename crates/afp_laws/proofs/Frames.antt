@@ -1,18 +1,18 @@
 -- What stands where in a written frame. Assumes nothing.
-use mathlib.Core.Path.{_≡_, refl, sym, ap, ap₂, _∙_}
+use mathlib.Core.Path.{_≡_, refl}
 use mathlib.Core.List.{List, [], _∷_, _++_, append-assoc}
-use Prim.Native.Nat.{ℕ, zero, suc, _+_, _-_, _*_, _/_, _%_, _≤_, _<_}
+use Prim.Native.Nat.{ℕ, _+_, _-_, _/_, _%_}
 use native.Mathlib.Omega.{arith}
-use lib.ListN.{length, getD, take, drop, length-append}
-use lib.Seq.{take-at, drop-at, getD-at, getD-append-add}
+use lib.ListN.{length, getD, length-append}
+use lib.Seq.{take-at, getD-at, getD-append-add}
 use Rattle.sums.specs.Sum.{headerSum}
 use Rattle.fcs.specs.Fcs.{checkSequence, checkOctets}
 use Rattle.stations.specs.declared.Next.{Next}
-use Rattle.stations.specs.Fields.{fieldsAt, stationsOf, nextOffset}
+use Rattle.stations.specs.Fields.{stationsOf, nextOffset}
 use Rattle.afp.specs.Numbers.{version}
-use Rattle.afp.specs.Layout.{octet, offset, checkedLength, checkedPart, receivedCheck, variablePart, receivedSum, summedPart}
+use Rattle.afp.specs.Layout.{octet, checkedPart, receivedCheck, variablePart, receivedSum, summedPart}
 use Rattle.afp_write.specs.Frame.{headerLength, withCheck, headerBefore, headerOf, frameOf}
-use Rattle.afp_write.proofs.Buffers.{length-before, length-header}
+use Rattle.afp_write.proofs.Buffers.{length-before}
 
 -- ---- octets and their check octets
 module _ (xs : List ℕ) where

@@ -1,21 +1,18 @@
 -- Parts and meanings: a frame that means something passed every test, and its parts and its meaning determine each other. Assumes nothing.
 use mathlib.Core.Path.{_≡_, refl, sym, ap, ap₂, _∙_}
-use mathlib.Core.Bool.{Bool, true, false}
-use mathlib.Core.List.{List, [], _∷_, _++_}
-use Prim.Native.Nat.{ℕ, _+_, _≤_}
-use lib.Dec.{T, eqb}
-use lib.ListN.{length, take, drop}
-use Rattle.common.specs.Refusals.{Refusal, guarded}
+use mathlib.Core.Bool.{Bool}
+use mathlib.Core.List.{List}
+use Prim.Native.Nat.{ℕ}
+use lib.Dec.{eqb}
+use lib.ListN.{length, take}
 use Rattle.common.specs.Buffer.{withFront}
 use Rattle.common.proofs.Buffer.{take-withFront}
 use Rattle.common.proofs.Refusals.{Passed, guarded-done}
-use Rattle.common.proofs.FirstRefusal.{numbered, number-passed}
+use Rattle.common.proofs.FirstRefusal.{number-passed}
 use Rattle.sums.specs.Sum.{notCalculated}
-use Rattle.stations.specs.IdList.{fieldsOf, idsOf}
 use Rattle.stations.proofs.IdList.{fields-ids}
-use Rattle.supplementary.specs.Options.{supplementaryOctets, supplementaryIn}
 use Rattle.supplementary.proofs.Options.{octets-in}
-use Rattle.afp.specs.Layout.{receivedSum, stationsIn}
+use Rattle.afp.specs.Layout.{receivedSum}
 use Rattle.afp.specs.Reading.{envelopeRefusals, fixedRefusals, stationRefusals, restRefusals, refusals}
 use Rattle.afp.specs.Meaning.{Meaning, Verdict, refused, means, meant, meaning}
 use Rattle.afp_write.specs.declared.Written.{Written}

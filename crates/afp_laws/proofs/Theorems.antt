@@ -8,13 +8,13 @@
 --   read-written-again  a frame that was checked comes back octet for octet
 --   frame-covered       a frame's length, and header, data and two check octets with nothing between
 --   changed-octet-31    one changed octet is refused by 31
-use mathlib.Core.Path.{_≡_, refl, sym, ap, ap₂, _∙_}
-use mathlib.Core.Bool.{Bool, true, false}
-use mathlib.Core.List.{List, [], _∷_, _++_, append-assoc}
+use mathlib.Core.Path.{_≡_, sym, ap, ap₂, _∙_}
+use mathlib.Core.Bool.{Bool, false}
+use mathlib.Core.List.{List, _++_, append-assoc}
 use Prim.Native.Nat.{ℕ, _+_, _-_, _≤_, _<_}
 use native.Mathlib.Omega.{arith}
 use lib.Dec.{eqb}
-use lib.ListN.{length, getD, take, drop, set, length-drop, take-append-drop}
+use lib.ListN.{length, take, drop, set, length-drop, take-append-drop}
 use lib.Seq.{length-take-le, take-take}
 use Rattle.common.proofs.Refusals.{Passed}
 use Rattle.sums.specs.Sum.{notCalculated}
@@ -22,10 +22,9 @@ use Rattle.fcs.proofs.Register.{Octets}
 use Rattle.afp.specs.Numbers.{shortestFrame, longestFrame, shortestHeader, longestHeader, longestData, badCheck}
 use Rattle.afp.specs.Layout.{octet, offset, checkedLength, checkedPart, receivedSum}
 use Rattle.afp.specs.Reading.{refusals, readOf}
-use Rattle.afp.specs.Meaning.{Meaning, Verdict, refused, means, meant, meaning, verdict}
+use Rattle.afp.specs.Meaning.{Meaning, refused, means, meant, meaning, verdict}
 use Rattle.afp.proofs.Answers.{read-meaning}
 use Rattle.afp_write.specs.declared.Written.{Written}
-use Rattle.afp_write.specs.Frame.{written}
 use Rattle.afp_laws.specs.Parts.{Parts, encode, encodeRefusals, answer, sent, partsIn, meaningOf, partsOf}
 use Rattle.afp_laws.proofs.Written.{encode-passes, encode-checked, encode-parts}
 use Rattle.afp_laws.proofs.Accepted.{long-enough, short-enough, check-right, offset-low, offset-high, offset-in, length-d, payload-short, parts-pass, frame-again}

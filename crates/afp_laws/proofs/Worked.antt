@@ -1,6 +1,6 @@
 -- The paper's worked header, and a relayed frame, by computation on the definitions that the contracts cite. Assumes nothing.
 use mathlib.Core.Path.{_≡_, refl}
-use mathlib.Core.Bool.{true, false}
+use mathlib.Core.Bool.{false}
 use mathlib.Core.List.{List, [], _∷_}
 use mathlib.Core.Option.{none, some}
 use Prim.Native.Nat.{ℕ}
@@ -12,7 +12,7 @@ use Rattle.stations.specs.IdList.{idsFrom}
 use Rattle.supplementary.specs.Options.{validSupplementary, validOptions, callsignsAfter, supplementaryIn}
 use Rattle.afp.specs.Layout.{variablePart, stationsIn, rightHeaderSum}
 use Rattle.afp.specs.Reading.{envelopeRefusals, fixedRefusals, stationRefusals, restRefusals, refusals}
-use Rattle.afp.specs.Meaning.{Meaning, refused, means, meant, meaning}
+use Rattle.afp.specs.Meaning.{means, meant, meaning}
 use Rattle.afp_write.specs.Frame.{frameOf, headerBefore, headerOf, withCheck}
 use Rattle.afp_laws.specs.Parts.{Parts, encode}
 

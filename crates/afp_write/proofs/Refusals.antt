@@ -1,16 +1,16 @@
 -- The writer's refusals, one law for each answer of its functions, on plain numbers and lists. Assumes nothing.
-use mathlib.Core.Path.{_≡_, refl, sym, ap, ap₂, _∙_}
+use mathlib.Core.Path.{_≡_, refl, sym, ap, _∙_}
 use mathlib.Core.Bool.{Bool, true, false, cond, not}
 use mathlib.Core.List.{List, [], _∷_, _++_}
 use Prim.Native.Nat.{ℕ, _+_, _-_, _≤_, _<_}
 use native.Mathlib.Omega.{arith}
 use borrow.Author.Tests.{le-leb, lt-leb, lt-ltb, le-ltb, eq-eqb, ne-eqb, ltb-false}
-use lib.Dec.{leb, ltb, eqb}
+use lib.Dec.{ltb, eqb}
 use lib.ListN.{length}
 use Rattle.common.specs.Refusals.{Refusal, guarded}
 use Rattle.common.specs.FirstRefusal.{firstRefusal}
 use Rattle.common.specs.Buffer.{withFront}
-use Rattle.common.proofs.Refusals.{Passed, guarded-done}
+use Rattle.common.proofs.Refusals.{guarded-done}
 use Rattle.common.proofs.FirstRefusal.{first-stop, first-skip, first-passed, guarded-++, guarded-first}
 use Rattle.stations.specs.declared.Stations.{Stations}
 use Rattle.stations.specs.Fields.{stationsOf, lacksNext}

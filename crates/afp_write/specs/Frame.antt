@@ -5,7 +5,7 @@
 --   writeOf, bufferOf             the writer's answer, and the lent buffer after it
 --
 -- The station fields are with their closing 0. The supplementary header is with its length octet, and empty where there is none.
-use mathlib.Core.Bool.{Bool, not}
+use mathlib.Core.Bool.{not}
 use mathlib.Core.List.{List, [], _∷_, _++_}
 use Prim.Native.Nat.{ℕ, _+_}
 use lib.Dec.{leb, ltb, eqb}

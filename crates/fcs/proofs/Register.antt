@@ -1,18 +1,17 @@
 -- Laws of the register: it is linear, nothing is lost in it, and octets fed one by one are a number fed at once. Assumes nothing.
 use mathlib.Core.Path.{_≡_, refl, sym, ap, ap₂, _∙_}
-use mathlib.Core.Bool.{Bool, true, false}
 use mathlib.Core.List.{List, [], _∷_, _++_}
 use Prim.Native.Nat.{ℕ, zero, suc, _+_, _-_, _*_, _/_, _%_, _^_, _≤_, _<_}
 use native.Mathlib.Nat.{mod-lt, mul-one, mul-assoc, pow-suc, mul-div-cancel, mul-mod-left, zero-lt-suc, add-comm}
 use native.Mathlib.Numerals.{add-one}
 use native.Mathlib.Omega.{arith}
-use lib.Bits.{bitXor, differ, xor-shr, xor-mod, xor-lt, xor-zero-l, xor-zero-r, xor-self, xor-comm, xor-shifted}
+use lib.Bits.{bitXor, differ, xor-lt, xor-zero-l, xor-zero-r, xor-self, xor-comm, xor-shifted}
 use lib.Dec.{lit<}
 use lib.ListN.{length, getD, take, drop, take-append-drop, drop-of-length-le, length-drop}
 use lib.Seq.{drop-cons, drop-drop, take-all, length-take-le}
 use Rattle.fcs.specs.Fcs.{generator, preset, reduceIf, feedBit, feedBits, feed, feedAll, checkSequence}
 use Rattle.fcs.specs.Words.{shiftBit, shiftBits, littleEndian}
-use Rattle.fcs.proofs.Xor.{xor-half, xor-low, xor-parity, xor-assoc, xor-cancel, xor-left, xor-exchange}
+use Rattle.fcs.proofs.Xor.{xor-half, xor-low, xor-parity, xor-assoc, xor-cancel, xor-exchange}
 use Rattle.fcs.proofs.Linear.{Linear, linear-id, linear-∘}
 
 -- each octet of a list is one

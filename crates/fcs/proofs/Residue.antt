@@ -1,13 +1,12 @@
 -- What the check sequence detects. After octets and their own check octets the register is the residue, and after no other two octets;
 -- a change of the register or of an octet is never lost. Assumes nothing.
-use mathlib.Core.Path.{_≡_, refl, sym, ap, ap₂, _∙_}
+use mathlib.Core.Path.{_≡_, sym, ap, ap₂, _∙_}
 use mathlib.Core.List.{List, [], _∷_, _++_}
-use Prim.Native.Nat.{ℕ, zero, suc, _+_, _-_, _*_, _/_, _%_, _^_, _≤_, _<_}
+use Prim.Native.Nat.{ℕ, zero, suc, _+_, _-_, _*_, _/_, _%_, _^_, _<_}
 use native.Mathlib.Omega.{arith}
 use lib.Bits.{bitXor, xor-lt, xor-comm}
 use lib.Dec.{eqb→eq, lit<}
-use lib.ListN.{length, getD}
-use Rattle.fcs.specs.Fcs.{reduceIf, preset, residue, feed, feedAll, checkSequence, checkOctets}
+use Rattle.fcs.specs.Fcs.{preset, residue, feed, feedAll, checkSequence, checkOctets}
 use Rattle.fcs.specs.Words.{shiftBit, shiftBits, littleEndian}
 use Rattle.fcs.proofs.Xor.{xor-complement, xor-left}
 use Rattle.fcs.proofs.Register.{Octets, shifts-injective, feed-shift, feed-lt, feeds-lt, feeds-word, feed-++}

@@ -1,6 +1,6 @@
 -- Published values of the check sequence (CRC-16/X-25), by computation. Assumes nothing.
 use mathlib.Core.Path.{_≡_, refl}
-use mathlib.Core.List.{List, [], _∷_}
+use mathlib.Core.List.{[], _∷_}
 use Rattle.fcs.specs.Fcs.{feedBit, feedBits, feed, feedAll, checkSequence, checkOctets}
 
 -- "123456789": 906E, so 6E 90 on the line

@@ -1,7 +1,7 @@
 -- The rule of a station ID. Cited by ids' code and by the station fields. Assumes nothing.
 --
 --   validId xs   xs is "one or more of A-Z, 0-9, '/', then nothing, or '-' and one or more octets 21 to 7E"
-use mathlib.Core.Bool.{Bool, true, false, cond, _&&_, _||_}
+use mathlib.Core.Bool.{Bool, true, cond, _&&_, _||_}
 use mathlib.Core.List.{List, [], _∷_}
 use Prim.Native.Nat.{ℕ, _+_}
 use lib.Dec.{leb, ltb, eqb}

@@ -1,15 +1,15 @@
 -- A list of IDs and its station fields determine each other. Assumes nothing.
 use mathlib.Core.Path.{_≡_, refl, sym, ap, ap₂, _∙_}
-use mathlib.Core.Bool.{Bool, true, false, cond, not, _&&_}
+use mathlib.Core.Bool.{Bool, true, false, cond, _&&_}
 use mathlib.Core.List.{List, [], _∷_, _++_, append-assoc}
-use Prim.Native.Nat.{ℕ, zero, suc, _+_, _≤_, _<_}
+use Prim.Native.Nat.{ℕ, zero, suc, _+_}
 use native.Mathlib.Omega.{arith}
-use borrow.Author.Tests.{eqb-true, eqb-false, eq-eqb, ne-eqb}
+use borrow.Author.Tests.{eqb-true, ne-eqb}
 use lib.Dec.{eqb}
 use lib.ListN.{length, take, length-append}
 use lib.Seq.{length-take-le, take-at, drop-at}
 use Rattle.ids.specs.Id.{validId, callsignLength}
-use Rattle.stations.specs.Fields.{noNext, malformed, nextAfter, closedAt, onLength, stationsFrom, stationsOf}
+use Rattle.stations.specs.Fields.{noNext, malformed, nextAfter, closedAt, stationsFrom, stationsOf}
 use Rattle.stations.specs.IdList.{fieldsOf, idsFrom, idsOf, allValid}
 use Rattle.stations.specs.declared.Next.{Next}
 use Rattle.stations.specs.declared.Stations.{Stations}

@@ -1,13 +1,13 @@
 -- The next station matches by its place and by its number: either finds what the other found.
 -- Assumes nothing.
-use mathlib.Core.Path.{_≡_, refl, sym, ap, ap₂, _∙_}
+use mathlib.Core.Path.{_≡_, refl, ap}
 use mathlib.Core.Bool.{Bool, true, false, cond, _||_}
-use mathlib.Core.List.{List, [], _∷_, _++_}
+use mathlib.Core.List.{List, [], _∷_}
 use Prim.Native.Nat.{ℕ, zero, suc, _+_, _-_, _≤_, _<_}
 use native.Mathlib.Omega.{arith}
 use borrow.Author.Tests.{eqb-true, eqb-false, eq-eqb, ne-eqb}
 use lib.Dec.{eqb}
-use lib.ListN.{length, take, drop}
+use lib.ListN.{take}
 use Rattle.sums.specs.Sum.{nextStationSum}
 use Rattle.ids.specs.Id.{validId}
 use Rattle.stations.specs.Fields.{noNext, malformed, matches, nextAfter, closedAt, onLength, stationsFrom, stationsOf}
