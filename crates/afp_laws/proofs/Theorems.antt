@@ -3,6 +3,7 @@
 -- `read` promises `readOf` and that its answer shows `meaning`; `write` promises `writeOf` and `bufferOf`. Everything here is about these.
 --
 --   one-meaning         an answer of the reader shows the frame's meaning, or the first refusal
+--   proper-written      every meaning that keeps the paper's rules is written, given room
 --   written-read        what is written reads as what was given, checked
 --   read-written        what a frame means can be written, and reads as the same meaning
 --   read-written-again  a frame that was checked comes back octet for octet
@@ -29,7 +30,9 @@ use Rattle.afp_laws.specs.Parts.{Parts, encode, encodeRefusals, answer, 
 use Rattle.afp_laws.proofs.Written.{encode-passes, encode-checked, encode-parts}
 use Rattle.afp_laws.proofs.Accepted.{long-enough, short-enough, check-right, offset-low, offset-high, offset-in, length-d, payload-short, parts-pass, frame-again}
 use Rattle.afp_laws.proofs.Meanings.{passed-meaning, meaning-passed, meaning-is, unchecked-is, parts-meaning, answer-passed, answer-is, sent-is}
+use Rattle.afp_laws.proofs.Writable.{proper-writable}
 use Rattle.afp_laws.proofs.Changed.{changed-refused}
+use Rattle.afp_laws.specs.Proper.{Proper}
 
 pub one-meaning : (f : List ℕ) → verdict (readOf f) f ≡ meaning f
 one-meaning f = read-meaning f
@@ -44,6 +47,14 @@ pub written-read : (m : Parts) (out : List ℕ) → answer m out .number ≡ 0 �
 written-read m out e =
     let p = answer-passed m out e in
     ap meaning (sent-is m out p) ∙ encode-meaning m (length out) p
+
+-- every meaning that keeps the paper's rules is written, and read back
+pub proper-written : (m : Meaning) (out : List ℕ) → Proper m → length (encode (partsOf m)) ≤ length out
+    → (answer (partsOf m) out .number ≡ 0) × (meaning (sent (partsOf m) out) ≡ means (meaningOf (partsOf m)) false)
+proper-written m out q fits =
+    let p = proper-writable m (length out) q fits in
+    let e = ap (λ (w : Written). w .number) (answer-is (partsOf m) out p) in
+    (e, written-read (partsOf m) out e)
 
 -- ---- read, then written
 module _ (f : List ℕ) (m : Meaning) (u : Bool) (e : meaning f ≡ means m u) (out : List ℕ) (fits : length f ≤ length out) where

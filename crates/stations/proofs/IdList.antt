@@ -114,7 +114,7 @@ unfolding validId callsignLength
 not-empty [] g z = let y : _≡_ {A = ℕ} 0 1 = cc in omega arith
 not-empty (a ∷ i) g z = omega arith
 
-and-true : (a b : Bool) → (a && b) ≡ true → (a ≡ true) × (b ≡ true)
+pub and-true : (a b : Bool) → (a && b) ≡ true → (a ≡ true) × (b ≡ true)
 and-true true b h = (refl, h)
 and-true false b h = let y : _≡_ {A = ℕ} 0 1 = cc in absurd (omega arith)
 
@@ -132,11 +132,11 @@ unfolding closedAt
 closed-end p m x h = ap (λ (b : Bool). cond b malformed (record { end = p + 1; count = m; next = x }) .end) (ne-eqb m 0 h)
 
 module _ (w n : ℕ) (t : List ℕ) where
-  closing : (p m : ℕ) (x : Next) → stationsFrom w n p m x 0 (0 ∷ t) .end ≡ closedAt p m x .end
+  pub closing : (p m : ℕ) (x : Next) → stationsFrom w n p m x 0 (0 ∷ t) ≡ closedAt p m x
   unfolding stationsFrom
   closing p m x = refl
 
-  pass-id : (p m : ℕ) (x : Next) (i rest : List ℕ) → validId i ≡ true
+  pub pass-id : (p m : ℕ) (x : Next) (i rest : List ℕ) → validId i ≡ true
       → stationsFrom w n p m x 0 (length i ∷ (i ++ rest)) ≡ stationsFrom w n (p + 1 + length i) (m + 1) (nextAfter w n p (m + 1) (length i ∷ i) x) 0 rest
   unfolding stationsFrom
   pass-id p m x i rest g =
@@ -150,7 +150,7 @@ module _ (w n : ℕ) (t : List ℕ) where
   from-end : (p m : ℕ) (x : Next) (is : List (List ℕ)) → (m + length is ≡ 0 → ⊥) → allValid is ≡ true
       → stationsFrom w n p m x 0 (fieldsOf is ++ t) .end ≡ p + length (fieldsOf is)
   unfolding fieldsOf allValid
-  from-end p m x [] h g = closing p m x ∙ closed-end p m x (λ e. h (omega arith))
+  from-end p m x [] h g = ap (λ (r : Stations). r .end) (closing p m x) ∙ closed-end p m x (λ e. h (omega arith))
   from-end p m x (i ∷ is) h g =
       let q = and-true (validId i) (allValid is) g in
       let y = nextAfter w n p (m + 1) (length i ∷ i) x in

@@ -4,3 +4,4 @@ pub mod Search
 pub mod Fields
 pub mod NextAfter
 pub mod IdList
+pub mod NextField

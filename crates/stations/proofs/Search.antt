@@ -26,7 +26,7 @@ closed-ind P p m x h z = by (eqb m 0)
     by false = h
 
 -- ---- once found it is kept, and nothing more is looked for
-next-after-found : (w n p m : ℕ) (f : List ℕ) (x : Next) → Found x → nextAfter w n p m f x ≡ x
+pub next-after-found : (w n p m : ℕ) (f : List ℕ) (x : Next) → Found x → nextAfter w n p m f x ≡ x
 unfolding nextAfter
 next-after-found w n p m f x h = rw (ne-eqb (x .number) 0 h) (by (eqb m 1))
   where
@@ -57,19 +57,19 @@ stations-from-same w n w′ n′ p m x zero (a ∷ s) h =
     (rw (next-after-found w n p (m + 1) (a ∷ take a s) x h, next-after-found w′ n′ p (m + 1) (a ∷ take a s) x h) (stations-from-same w n w′ n′ (p + 1) (m + 1) x a s h))
 
 -- ---- the three ways that an ID is nextAfter while nothing is found
-abbrev here : (p m : ℕ) → List ℕ → Next
+abbrev pub here : (p m : ℕ) → List ℕ → Next
 here p m f = record { number = m; index = p; sum = nextStationSum f }
 
-next-after-source : (w n p m : ℕ) (f : List ℕ) → m ≡ 1 → nextAfter w n p m f noNext ≡ noNext
+pub next-after-source : (w n p m : ℕ) (f : List ℕ) → m ≡ 1 → nextAfter w n p m f noNext ≡ noNext
 unfolding nextAfter
 next-after-source w n p m f i = rw (eq-eqb m 1 i)
 
 module _ (w n p m : ℕ) (f : List ℕ) (later : m ≡ 1 → ⊥) where
-  next-after-here : matches w n p m ≡ true → nextAfter w n p m f noNext ≡ here p m f
+  pub next-after-here : matches w n p m ≡ true → nextAfter w n p m f noNext ≡ here p m f
   unfolding nextAfter
   next-after-here h = rw (ne-eqb m 1 later, h)
 
-  next-after-other : matches w n p m ≡ false → nextAfter w n p m f noNext ≡ noNext
+  pub next-after-other : matches w n p m ≡ false → nextAfter w n p m f noNext ≡ noNext
   unfolding nextAfter
   next-after-other h = rw (ne-eqb m 1 later, h)
 
@@ -146,11 +146,11 @@ module _ (w n w′ n′ : ℕ) where
 or-left : (a b : Bool) → a ≡ true → (a || b) ≡ true
 or-left a b h = rw h
 
-or-right : (a b : Bool) → b ≡ true → (a || b) ≡ true
+pub or-right : (a b : Bool) → b ≡ true → (a || b) ≡ true
 or-right true b h = refl
 or-right false b h = h
 
-or-none : (a b : Bool) → a ≡ false → b ≡ false → (a || b) ≡ false
+pub or-none : (a b : Bool) → a ≡ false → b ≡ false → (a || b) ≡ false
 or-none a b h i = rw (h, i)
 
 module _ (w n : ℕ) (s : List ℕ) (f : Found (stationsOf w n s .next)) where

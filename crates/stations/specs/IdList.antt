@@ -2,9 +2,10 @@
 --
 --   fieldsOf is   the fields of the IDs is
 --   idsOf s       the IDs of the fields s
+--   indexOf n is  where the field of the ID number n begins
 use mathlib.Core.Bool.{Bool, true, cond, _&&_}
 use mathlib.Core.List.{List, [], _∷_, _++_}
-use Prim.Native.Nat.{ℕ, zero, suc}
+use Prim.Native.Nat.{ℕ, zero, suc, _-_}
 use lib.Dec.{eqb}
 use lib.ListN.{length, take}
 use Rattle.ids.specs.Id.{validId}
@@ -13,6 +14,13 @@ use Rattle.ids.specs.Id.{validId}
 unfoldable pub fieldsOf : List (List ℕ) → List ℕ
 fieldsOf [] = 0 ∷ []
 fieldsOf (i ∷ is) = length i ∷ (i ++ fieldsOf is)
+
+-- one ID's field, and the index of the length octet of the ID number n, the source being 1
+abbrev pub fieldOf : List ℕ → List ℕ
+fieldOf i = length i ∷ i
+
+abbrev pub indexOf : ℕ → List (List ℕ) → ℕ
+indexOf n is = length (fieldsOf (take (n - 1) is)) - 1
 
 -- the IDs of station fields, k octets of the last ID still to pass
 unfoldable pub idsFrom : ℕ → List ℕ → List (List ℕ)

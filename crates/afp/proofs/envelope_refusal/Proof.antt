@@ -34,10 +34,16 @@ wide-requires-2 : tie.Need-wide-requires-2
 wide-requires-2 c κs = search needs
 
 mul-received : tie.Need-mul-received
-mul-received c = omega (arith, c .before .before .before .before .before .before .shared-slice-known .given (length (c .before .before .before .before .before .before .before .args .f .now) - 1))
+mul-received c =
+    let shared-slice-known = c .before .before .before .before .before .before .shared-slice-known in
+    let args = c .before .before .before .before .before .before .before .args in
+    omega (arith, shared-slice-known .given (length (args .f .now) - 1))
 
 add-received : tie.Need-add-received
-add-received c = omega (arith, c .before .before .before .before .before .before .shared-slice-known .given (length (c .before .before .before .before .before .before .before .args .f .now) - 1), c .before .before .before .before .before .before .shared-slice-known .given (length (c .before .before .before .before .before .before .before .args .f .now) - 2))
+add-received c =
+    let shared-slice-known = c .before .before .before .before .before .before .shared-slice-known in
+    let args = c .before .before .before .before .before .before .before .args in
+    omega (arith, shared-slice-known .given (length (args .f .now) - 1), shared-slice-known .given (length (args .f .now) - 2))
 
 slice-aggregate-check-sequence : tie.Need-slice-aggregate-check-sequence
 slice-aggregate-check-sequence c = sym (length-take-le _ _ (omega arith))
@@ -47,13 +53,21 @@ check-sequence-requires c κs = search needs
 
 returns-3 : tie.Need-returns-3
 returns-3 c =
-    envelope-check (c .before .before .before .before .before .before .before .before .before .before .args .f .now) (omega arith) (omega arith) (c .before .before .before .before .before .wide .result + c .before .before .before .wide2 .result * 256) (c .before .check-sequence .result)
-    (ap₂ (λ (l h : ℕ). l + h * 256) (c .before .before .before .before .before .wide .ensures) (c .before .before .before .wide2 .ensures)) (c .before .check-sequence .ensures) (c .if3 .taken)
+    let args = c .before .before .before .before .before .before .before .before .before .before .args in
+    let wide = c .before .before .before .before .before .wide in
+    let wide2 = c .before .before .before .wide2 in
+    let check-sequence = c .before .check-sequence in
+    envelope-check (args .f .now) (omega arith) (omega arith) (wide .result + wide2 .result * 256) (check-sequence .result)
+    (ap₂ (λ (l h : ℕ). l + h * 256) (wide .ensures) (wide2 .ensures)) (check-sequence .ensures) (c .if3 .taken)
 
 returns-4 : tie.Need-returns-4
 returns-4 c =
-    envelope-done (c .before .before .before .before .before .before .before .before .before .before .args .f .now) (omega arith) (omega arith) (c .before .before .before .before .before .wide .result + c .before .before .before .wide2 .result * 256) (c .before .check-sequence .result)
-    (ap₂ (λ (l h : ℕ). l + h * 256) (c .before .before .before .before .before .wide .ensures) (c .before .before .before .wide2 .ensures)) (c .before .check-sequence .ensures) (c .if3 .left)
+    let args = c .before .before .before .before .before .before .before .before .before .before .args in
+    let wide = c .before .before .before .before .before .wide in
+    let wide2 = c .before .before .before .wide2 in
+    let check-sequence = c .before .check-sequence in
+    envelope-done (args .f .now) (omega arith) (omega arith) (wide .result + wide2 .result * 256) (check-sequence .result)
+    (ap₂ (λ (l h : ℕ). l + h * 256) (wide .ensures) (wide2 .ensures)) (check-sequence .ensures) (c .if3 .left)
 
 pub envelope-refusal-spec : {M : Type 1} → statement M
 envelope-refusal-spec =

@@ -24,19 +24,35 @@ size-requires : tie.Need-size-requires
 size-requires c κs = search needs
 
 returns-3 : tie.Need-returns-3
-returns-3 c = fixed-low (c .before .before .before .before .before .before .before .before .args .f .now) (c .before .before .before .before .before .if1 .left) (omega arith) (c .before .size .result) (c .before .size .ensures) (omega arith)
+returns-3 c =
+    let args = c .before .before .before .before .before .before .before .before .args in
+    let if1 = c .before .before .before .before .before .if1 in
+    let size = c .before .size in
+    fixed-low (args .f .now) (if1 .left) (omega arith) (size .result) (size .ensures) (omega arith)
 
 returns-4 : tie.Need-returns-4
-returns-4 c = fixed-high (c .before .before .before .before .before .before .before .before .before .args .f .now) (c .before .before .before .before .before .before .if1 .left) (omega arith) (c .before .before .size .result) (c .before .before .size .ensures) (omega arith) (omega arith)
+returns-4 c =
+    let args = c .before .before .before .before .before .before .before .before .before .args in
+    let if1 = c .before .before .before .before .before .before .if1 in
+    let size = c .before .before .size in
+    fixed-high (args .f .now) (if1 .left) (omega arith) (size .result) (size .ensures) (omega arith) (omega arith)
 
 sub-k : tie.Need-sub-k
 sub-k c = search needs
 
 returns-5 : tie.Need-returns-5
-returns-5 c = fixed-over (c .before .before .before .before .before .before .before .before .before .before .args .f .now) (c .before .before .before .before .before .before .before .if1 .left) (omega arith) (c .before .before .before .size .result) (c .before .before .before .size .ensures) (omega arith) (omega arith) (omega arith)
+returns-5 c =
+    let args = c .before .before .before .before .before .before .before .before .before .before .args in
+    let if1 = c .before .before .before .before .before .before .before .if1 in
+    let size = c .before .before .before .size in
+    fixed-over (args .f .now) (if1 .left) (omega arith) (size .result) (size .ensures) (omega arith) (omega arith) (omega arith)
 
 returns-6 : tie.Need-returns-6
-returns-6 c = fixed-done (c .before .before .before .before .before .before .before .before .before .before .args .f .now) (c .before .before .before .before .before .before .before .if1 .left) (omega arith) (c .before .before .before .size .result) (c .before .before .before .size .ensures) (omega arith) (omega arith) (omega arith)
+returns-6 c =
+    let args = c .before .before .before .before .before .before .before .before .before .before .args in
+    let if1 = c .before .before .before .before .before .before .before .if1 in
+    let size = c .before .before .before .size in
+    fixed-done (args .f .now) (if1 .left) (omega arith) (size .result) (size .ensures) (omega arith) (omega arith) (omega arith)
 
 pub fixed-refusal-spec : {M : Type 1} → statement M
 fixed-refusal-spec =

@@ -24,7 +24,9 @@ part-result-end : tie.Need-part-result-end
 part-result-end c = search needs
 
 returns-2 : tie.Need-returns-2
-returns-2 c = part-over (c .before .before .before .args .f .now) (c .before .before .before .args .q .place) (c .before .before .before .args .q .size) (omega arith)
+returns-2 c =
+    let args = c .before .before .before .args in
+    part-over (args .f .now) (args .q .place) (args .q .size) (omega arith)
 
 add-e : tie.Need-add-e
 add-e c = search needs
@@ -39,7 +41,9 @@ part-result-end-2 : tie.Need-part-result-end-2
 part-result-end-2 c = search needs
 
 returns-3 : tie.Need-returns-3
-returns-3 c = part-within (c .before .before .before .args .f .now) (c .before .before .before .args .q .place) (c .before .before .before .args .q .size)
+returns-3 c =
+    let args = c .before .before .before .args in
+    part-within (args .f .now) (args .q .place) (args .q .size)
 
 pub octets-of-spec : {M : Type 1} → statement M
 octets-of-spec =

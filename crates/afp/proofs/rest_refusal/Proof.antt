@@ -48,21 +48,43 @@ sub-n-2 c = search needs
 
 returns : tie.Need-returns
 returns c =
-    rest-data (c .before .before .before .before .before .before .before .before .before .before .before .args .f .now) (c .before .before .before .before .before .before .before .before .before .before .before .args .end) (c .before .before .before .before .before .before .before .before .size .result) (c .before .before .before .before .before .before .before .before .size .ensures) (c .before .before .before .before .before .before .valid-supplementary .result) (c .before .before .before .before .before .before .valid-supplementary .ensures) (c .before .before .before .before .before .if1 .taken)
-    (c .before .before .right-header-sum .result) (c .before .before .right-header-sum .ensures) (c .before .if2 .taken) (omega arith)
+    let args = c .before .before .before .before .before .before .before .before .before .before .before .args in
+    let size = c .before .before .before .before .before .before .before .before .size in
+    let valid-supplementary = c .before .before .before .before .before .before .valid-supplementary in
+    let if1 = c .before .before .before .before .before .if1 in
+    let right-header-sum = c .before .before .right-header-sum in
+    let if2 = c .before .if2 in
+    rest-data (args .f .now) (args .end) (size .result) (size .ensures) (valid-supplementary .result) (valid-supplementary .ensures) (if1 .taken)
+    (right-header-sum .result) (right-header-sum .ensures) (if2 .taken) (omega arith)
 
 returns-2 : tie.Need-returns-2
 returns-2 c =
-    rest-done (c .before .before .before .before .before .before .before .before .before .before .before .args .f .now) (c .before .before .before .before .before .before .before .before .before .before .before .args .end) (c .before .before .before .before .before .before .before .before .size .result) (c .before .before .before .before .before .before .before .before .size .ensures) (c .before .before .before .before .before .before .valid-supplementary .result) (c .before .before .before .before .before .before .valid-supplementary .ensures) (c .before .before .before .before .before .if1 .taken)
-    (c .before .before .right-header-sum .result) (c .before .before .right-header-sum .ensures) (c .before .if2 .taken) (omega arith)
+    let args = c .before .before .before .before .before .before .before .before .before .before .before .args in
+    let size = c .before .before .before .before .before .before .before .before .size in
+    let valid-supplementary = c .before .before .before .before .before .before .valid-supplementary in
+    let if1 = c .before .before .before .before .before .if1 in
+    let right-header-sum = c .before .before .right-header-sum in
+    let if2 = c .before .if2 in
+    rest-done (args .f .now) (args .end) (size .result) (size .ensures) (valid-supplementary .result) (valid-supplementary .ensures) (if1 .taken)
+    (right-header-sum .result) (right-header-sum .ensures) (if2 .taken) (omega arith)
 
 returns-3 : tie.Need-returns-3
 returns-3 c =
-    rest-sum (c .before .before .before .before .before .before .before .before .before .before .args .f .now) (c .before .before .before .before .before .before .before .before .before .before .args .end) (c .before .before .before .before .before .before .before .size .result) (c .before .before .before .before .before .before .before .size .ensures) (c .before .before .before .before .before .valid-supplementary .result) (c .before .before .before .before .before .valid-supplementary .ensures) (c .before .before .before .before .if1 .taken)
-    (c .before .right-header-sum .result) (c .before .right-header-sum .ensures) (c .if2 .left)
+    let args = c .before .before .before .before .before .before .before .before .before .before .args in
+    let size = c .before .before .before .before .before .before .before .size in
+    let valid-supplementary = c .before .before .before .before .before .valid-supplementary in
+    let if1 = c .before .before .before .before .if1 in
+    let right-header-sum = c .before .right-header-sum in
+    rest-sum (args .f .now) (args .end) (size .result) (size .ensures) (valid-supplementary .result) (valid-supplementary .ensures) (if1 .taken)
+    (right-header-sum .result) (right-header-sum .ensures) (c .if2 .left)
 
 returns-4 : tie.Need-returns-4
-returns-4 c = rest-supplementary (c .before .before .before .before .before .before .args .f .now) (c .before .before .before .before .before .before .args .end) (c .before .before .before .size .result) (c .before .before .before .size .ensures) (c .before .valid-supplementary .result) (c .before .valid-supplementary .ensures) (c .if1 .left)
+returns-4 c =
+    let args = c .before .before .before .before .before .before .args in
+    let size = c .before .before .before .size in
+    let valid-supplementary = c .before .valid-supplementary in
+    rest-supplementary (args .f .now) (args .end) (size .result) (size .ensures) (valid-supplementary .result) (valid-supplementary .ensures)
+    (c .if1 .left)
 
 pub rest-refusal-spec : {M : Type 1} → statement M
 rest-refusal-spec =

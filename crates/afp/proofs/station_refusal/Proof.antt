@@ -18,23 +18,48 @@ lacks-next-requires : tie.Need-lacks-next-requires
 lacks-next-requires c κs = search needs
 
 returns-2 : tie.Need-returns-2
-returns-2 c = station-lacks (c .before .before .before .before .before .before .before .before .args .f .now) (c .before .before .before .before .before .before .before .before .args .r) (c .before .before .before .before .before .before .if1 .left) (c .before .before .before .offset-is .result) (c .before .before .before .offset-is .ensures) (c .before .before .if2 .taken) (c .before .lacks-next .result) (c .before .lacks-next .ensures) (c .if3 .taken)
+returns-2 c =
+    let args = c .before .before .before .before .before .before .before .before .args in
+    let if1 = c .before .before .before .before .before .before .if1 in
+    let offset-is = c .before .before .before .offset-is in
+    let if2 = c .before .before .if2 in
+    let lacks-next = c .before .lacks-next in
+    station-lacks (args .f .now) (args .r) (if1 .left) (offset-is .result) (offset-is .ensures) (if2 .taken) (lacks-next .result)
+    (lacks-next .ensures) (c .if3 .taken)
 
 shared-slice-read-if4 : tie.Need-shared-slice-read-if4
 shared-slice-read-if4 c = search needs
 
 returns-3 : tie.Need-returns-3
 returns-3 c =
-    station-sum (c .before .before .before .before .before .before .before .before .before .before .args .f .now) (c .before .before .before .before .before .before .before .before .before .before .args .r) (c .before .before .before .before .before .before .before .before .if1 .left) (c .before .before .before .before .before .offset-is .result) (c .before .before .before .before .before .offset-is .ensures) (c .before .before .before .before .if2 .taken) (c .before .before .before .lacks-next .result) (c .before .before .before .lacks-next .ensures) (c .before .before .if3 .left)
+    let args = c .before .before .before .before .before .before .before .before .before .before .args in
+    let if1 = c .before .before .before .before .before .before .before .before .if1 in
+    let offset-is = c .before .before .before .before .before .offset-is in
+    let if2 = c .before .before .before .before .if2 in
+    let lacks-next = c .before .before .before .lacks-next in
+    let if3 = c .before .before .if3 in
+    station-sum (args .f .now) (args .r) (if1 .left) (offset-is .result) (offset-is .ensures) (if2 .taken) (lacks-next .result) (lacks-next .ensures)
+    (if3 .left)
     (c .if4 .taken)
 
 returns-4 : tie.Need-returns-4
 returns-4 c =
-    station-done (c .before .before .before .before .before .before .before .before .before .before .args .f .now) (c .before .before .before .before .before .before .before .before .before .before .args .r) (c .before .before .before .before .before .before .before .before .if1 .left) (c .before .before .before .before .before .offset-is .result) (c .before .before .before .before .before .offset-is .ensures) (c .before .before .before .before .if2 .taken) (c .before .before .before .lacks-next .result) (c .before .before .before .lacks-next .ensures) (c .before .before .if3 .left)
+    let args = c .before .before .before .before .before .before .before .before .before .before .args in
+    let if1 = c .before .before .before .before .before .before .before .before .if1 in
+    let offset-is = c .before .before .before .before .before .offset-is in
+    let if2 = c .before .before .before .before .if2 in
+    let lacks-next = c .before .before .before .lacks-next in
+    let if3 = c .before .before .if3 in
+    station-done (args .f .now) (args .r) (if1 .left) (offset-is .result) (offset-is .ensures) (if2 .taken) (lacks-next .result) (lacks-next .ensures)
+    (if3 .left)
     (c .if4 .left)
 
 returns-5 : tie.Need-returns-5
-returns-5 c = station-offset (c .before .before .before .before .before .before .args .f .now) (c .before .before .before .before .before .before .args .r) (c .before .before .before .before .if1 .left) (c .before .offset-is .result) (c .before .offset-is .ensures) (c .if2 .left)
+returns-5 c =
+    let args = c .before .before .before .before .before .before .args in
+    let if1 = c .before .before .before .before .if1 in
+    let offset-is = c .before .offset-is in
+    station-offset (args .f .now) (args .r) (if1 .left) (offset-is .result) (offset-is .ensures) (c .if2 .left)
 
 pub station-refusal-spec : {M : Type 1} → statement M
 station-refusal-spec =

@@ -34,13 +34,21 @@ parse-requires : tie.Need-parse-requires
 parse-requires c κs = search needs
 
 returns : tie.Need-returns
-returns c = c .parse .ensures ∙ stations-low (c .before .before .before .before .before .before .before .before .args .f .now) (c .before .before .before .before .before .size .result) (c .before .before .size2 .result) (c .before .before .before .before .before .size .ensures) (c .before .before .size2 .ensures) (omega arith)
+returns c =
+    let args = c .before .before .before .before .before .before .before .before .args in
+    let size = c .before .before .before .before .before .size in
+    let size2 = c .before .before .size2 in
+    c .parse .ensures ∙ stations-low (args .f .now) (size .result) (size2 .result) (size .ensures) (size2 .ensures) (omega arith)
 
 parse-requires-2 : tie.Need-parse-requires-2
 parse-requires-2 c κs = search needs
 
 returns-2 : tie.Need-returns-2
-returns-2 c = c .parse2 .ensures ∙ stations-high (c .before .before .before .before .before .before .before .before .args .f .now) (c .before .before .before .before .before .size .result) (c .before .before .size2 .result) (c .before .before .before .before .before .size .ensures) (c .before .before .size2 .ensures)
+returns-2 c =
+    let args = c .before .before .before .before .before .before .before .before .args in
+    let size = c .before .before .before .before .before .size in
+    let size2 = c .before .before .size2 in
+    c .parse2 .ensures ∙ stations-high (args .f .now) (size .result) (size2 .result) (size .ensures) (size2 .ensures)
 
 pub stations-in-spec : {M : Type 1} → statement M
 stations-in-spec =

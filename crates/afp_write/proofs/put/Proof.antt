@@ -38,12 +38,14 @@ loop-less c = search needs
 
 loop-again : tie.Need-loop-again Inv-loop μ-loop
 loop-again c =
+    let args = c .before .before .before .args in
+    let loop-test = c .before .loop-test in
     let l = c .before .before in
-    let a = c .before .before .before .args in
+    let a = args in
     let e = length-set (l .loop .out) (a .at + l .loop .i) (getD (a .x .now) (l .loop .i) 0) in (
       omega arith,
       e ∙ l .loop .inv .1,
-      put-turn (a .x .now) (l .loop .out) (sets (a .out .now) (a .at) (a .x .now)) (a .at) (l .loop .i) (l .loop .inv .2) (c .before .loop-test .taken),
+      put-turn (a .x .now) (l .loop .out) (sets (a .out .now) (a .at) (a .x .now)) (a .at) (l .loop .i) (l .loop .inv .2) (loop-test .taken),
     )
 
 add-result : tie.Need-add-result Inv-loop μ-loop
@@ -54,8 +56,9 @@ same-length c = c .before .loop .inv .1
 
 returns : tie.Need-returns Inv-loop μ-loop
 returns c =
+    let args = c .before .before .args in
     let l = c .before in
-    let a = c .before .before .args in
+    let a = args in
     (omega arith, put-done (a .x .now) (l .loop .out) (sets (a .out .now) (a .at) (a .x .now)) (a .at) (l .loop .i) (l .loop .inv .2) (c .loop-test .left))
 
 pub put-spec : {M : Type 1} → statement M

@@ -17,8 +17,10 @@ slice-reshare-prefix-header-sum c = search needs
 
 slice-aggregate-header-sum : tie.Need-slice-aggregate-header-sum
 slice-aggregate-header-sum c =
-    let q = c .before .before .before .put-before in
-    let k : length (q .last .1 .1 .1 .1 .0) ≡ length (c .before .before .before .before .before .before .before .before .args .out .now) = q .kept .1 .1 .1 .1 .0 in
+    let args = c .before .before .before .before .before .before .before .before .args in
+    let put-before = c .before .before .before .put-before in
+    let q = put-before in
+    let k : length (q .last .1 .1 .1 .1 .0) ≡ length (args .out .now) = q .kept .1 .1 .1 .1 .0 in
     sym (length-take-le (q .result) (q .last .1 .1 .1 .1 .0) (omega arith))
 
 header-sum-requires : tie.Need-header-sum-requires

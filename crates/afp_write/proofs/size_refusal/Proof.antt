@@ -9,7 +9,9 @@ returns : tie.Need-returns
 returns c = size-long (c .before .args .s) (c .before .args .h) (c .before .args .d) (c .before .args .room) (omega arith)
 
 returns-2 : tie.Need-returns-2
-returns-2 c = size-long (c .before .before .args .s) (c .before .before .args .h) (c .before .before .args .d) (c .before .before .args .room) (omega arith)
+returns-2 c =
+    let args = c .before .before .args in
+    size-long (args .s) (args .h) (args .d) (args .room) (omega arith)
 
 add-n : tie.Need-add-n
 add-n c = search needs
@@ -18,13 +20,19 @@ add-n-2 : tie.Need-add-n-2
 add-n-2 c = search needs
 
 returns-3 : tie.Need-returns-3
-returns-3 c = size-short (c .before .before .before .args .s) (c .before .before .before .args .h) (c .before .before .before .args .d) (c .before .before .before .args .room) (omega arith)
+returns-3 c =
+    let args = c .before .before .before .args in
+    size-short (args .s) (args .h) (args .d) (args .room) (omega arith)
 
 returns-4 : tie.Need-returns-4
-returns-4 c = size-long (c .before .before .before .before .args .s) (c .before .before .before .before .args .h) (c .before .before .before .before .args .d) (c .before .before .before .before .args .room) (omega arith)
+returns-4 c =
+    let args = c .before .before .before .before .args in
+    size-long (args .s) (args .h) (args .d) (args .room) (omega arith)
 
 returns-5 : tie.Need-returns-5
-returns-5 c = size-data (c .before .before .before .before .before .args .s) (c .before .before .before .before .before .args .h) (c .before .before .before .before .before .args .d) (c .before .before .before .before .before .args .room) (omega arith) (omega arith) (omega arith)
+returns-5 c =
+    let args = c .before .before .before .before .before .args in
+    size-data (args .s) (args .h) (args .d) (args .room) (omega arith) (omega arith) (omega arith)
 
 add-m : tie.Need-add-m
 add-m c = search needs
@@ -33,10 +41,14 @@ add-m-2 : tie.Need-add-m-2
 add-m-2 c = search needs
 
 returns-6 : tie.Need-returns-6
-returns-6 c = size-room (c .before .before .before .before .before .before .args .s) (c .before .before .before .before .before .before .args .h) (c .before .before .before .before .before .before .args .d) (c .before .before .before .before .before .before .args .room) (omega arith) (omega arith) (omega arith) (omega arith)
+returns-6 c =
+    let args = c .before .before .before .before .before .before .args in
+    size-room (args .s) (args .h) (args .d) (args .room) (omega arith) (omega arith) (omega arith) (omega arith)
 
 returns-7 : tie.Need-returns-7
-returns-7 c = size-done (c .before .before .before .before .before .before .args .s) (c .before .before .before .before .before .before .args .h) (c .before .before .before .before .before .before .args .d) (c .before .before .before .before .before .before .args .room) (omega arith) (omega arith) (omega arith) (omega arith)
+returns-7 c =
+    let args = c .before .before .before .before .before .before .args in
+    size-done (args .s) (args .h) (args .d) (args .room) (omega arith) (omega arith) (omega arith) (omega arith)
 
 pub size-refusal-spec : {M : Type 1} → statement M
 size-refusal-spec =

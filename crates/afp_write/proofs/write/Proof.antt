@@ -21,8 +21,12 @@ refuse-requires c κs = search needs
 
 returns : tie.Need-returns
 returns c =
-    write-part (c .before .before .before .before .before .before .before .before .args .p) (c .before .before .before .before .before .before .before .before .args .s .now) (c .before .before .before .before .before .before .before .before .args .n) (c .before .before .before .before .before .before .before .before .args .h .now) (c .before .before .before .before .before .before .before .before .args .d .now) (c .before .before .before .before .before .before .before .before .args .out .now) (c .before .before .before .parse .result) (c .before .before .before .parse .ensures)
-    (c .before .before .part-refusal .result) (c .before .before .part-refusal .ensures) (c .refuse .result) (c .refuse .ensures) (c .before .if1 .taken)
+    let args = c .before .before .before .before .before .before .before .before .args in
+    let parse = c .before .before .before .parse in
+    let part-refusal = c .before .before .part-refusal in
+    let if1 = c .before .if1 in
+    write-part (args .p) (args .s .now) (args .n) (args .h .now) (args .d .now) (args .out .now) (parse .result) (parse .ensures)
+    (part-refusal .result) (part-refusal .ensures) (c .refuse .result) (c .refuse .ensures) (if1 .taken)
 
 size-refusal-requires : tie.Need-size-refusal-requires
 size-refusal-requires c κs = search needs
@@ -32,15 +36,26 @@ refuse-requires-2 c κs = search needs
 
 returns-2 : tie.Need-returns-2
 returns-2 c =
-    write-size (c .before .before .before .before .before .before .before .before .before .before .args .p) (c .before .before .before .before .before .before .before .before .before .before .args .s .now) (c .before .before .before .before .before .before .before .before .before .before .args .n) (c .before .before .before .before .before .before .before .before .before .before .args .h .now) (c .before .before .before .before .before .before .before .before .before .before .args .d .now) (c .before .before .before .before .before .before .before .before .before .before .args .out .now) (c .before .before .before .before .before .parse .result) (c .before .before .before .before .before .parse .ensures)
-    (c .before .before .before .before .part-refusal .result) (c .before .before .before .before .part-refusal .ensures) (c .before .before .before .if1 .left) (c .before .before .size-refusal .result) (c .before .before .size-refusal .ensures) (c .refuse2 .result) (c .refuse2 .ensures) (c .before .if2 .taken)
+    let args = c .before .before .before .before .before .before .before .before .before .before .args in
+    let parse = c .before .before .before .before .before .parse in
+    let part-refusal = c .before .before .before .before .part-refusal in
+    let size-refusal = c .before .before .size-refusal in
+    let if1 = c .before .before .before .if1 in
+    let if2 = c .before .if2 in
+    write-size (args .p) (args .s .now) (args .n) (args .h .now) (args .d .now) (args .out .now) (parse .result) (parse .ensures)
+    (part-refusal .result) (part-refusal .ensures) (if1 .left) (size-refusal .result) (size-refusal .ensures) (c .refuse2 .result)
+    (c .refuse2 .ensures) (if2 .taken)
 
 put-frame-requires : tie.Need-put-frame-requires
 put-frame-requires c κs =
-    let a = c .before .before .before .before .before .before .before .before .before .before .before .args in
-    let t = sizes-fit (length (a .s .now)) (length (a .h .now)) (length (a .d .now)) (length (a .out .now)) (sym (c .before .before .if2 .left) ∙ c .before .before .before .size-refusal .ensures) in
+    let args = c .before .before .before .before .before .before .before .before .before .before .before .args in
+    let parse = c .before .before .before .before .before .before .parse in
+    let size-refusal = c .before .before .before .size-refusal in
+    let if2 = c .before .before .if2 in
+    let a = args in
+    let t = sizes-fit (length (a .s .now)) (length (a .h .now)) (length (a .d .now)) (length (a .out .now)) (sym (if2 .left) ∙ size-refusal .ensures) in
     let b = stations-within 0 (a .n) (a .s .now) in
-    let e : c .before .before .before .before .before .before .parse .result .next .index ≤ 250 = rw (c .before .before .before .before .before .before .parse .ensures) (omega arith) in
+    let e : parse .result .next .index ≤ 250 = rw (parse .ensures) (omega arith) in
     (e, t .0, t .1)
 
 same-length : tie.Need-same-length
@@ -48,13 +63,20 @@ same-length c = search needs
 
 returns-3 : tie.Need-returns-3
 returns-3 c =
-    let a = c .before .before .before .before .before .before .before .before .before .before .before .before .before .before .args in
-    let q = c .before .before .put-frame in
-    write-done (a .p) (a .s .now) (a .n) (a .h .now) (a .d .now) (a .out .now) (c .before .before .before .before .before .before .before .before .before .parse .result) (c .before .before .before .before .before .before .before .before .before .parse .ensures)
-    (c .before .before .before .before .before .before .before .before .part-refusal .result) (c .before .before .before .before .before .before .before .before .part-refusal .ensures) (c .before .before .before .before .before .before .before .if1 .left) (c .before .before .before .before .before .before .size-refusal .result) (c .before .before .before .before .before .before .size-refusal .ensures)
-    (q .result) (q .last .1 .1 .1 .1 .1 .0) (c .before .before .before .before .before .if2 .left)
+    let args = c .before .before .before .before .before .before .before .before .before .before .before .before .before .before .args in
+    let parse = c .before .before .before .before .before .before .before .before .before .parse in
+    let part-refusal = c .before .before .before .before .before .before .before .before .part-refusal in
+    let size-refusal = c .before .before .before .before .before .before .size-refusal in
+    let if1 = c .before .before .before .before .before .before .before .if1 in
+    let if2 = c .before .before .before .before .before .if2 in
+    let put-frame = c .before .before .put-frame in
+    let a = args in
+    let q = put-frame in
+    write-done (a .p) (a .s .now) (a .n) (a .h .now) (a .d .now) (a .out .now) (parse .result) (parse .ensures)
+    (part-refusal .result) (part-refusal .ensures) (if1 .left) (size-refusal .result) (size-refusal .ensures)
+    (q .result) (q .last .1 .1 .1 .1 .1 .0) (if2 .left)
     (q .ensures .0 ∙ sym (length-frame (a .p) (a .s .now) (a .n) (a .h .now) (a .d .now)))
-    (q .ensures .1 ∙ frame-of (a .p) (a .s .now) (a .n) (a .h .now) (a .d .now) (a .out .now) (c .before .before .before .before .before .before .before .before .before .parse .result) (c .before .before .before .before .before .before .before .before .before .parse .ensures))
+    (q .ensures .1 ∙ frame-of (a .p) (a .s .now) (a .n) (a .h .now) (a .d .now) (a .out .now) (parse .result) (parse .ensures))
 
 pub write-spec : {M : Type 1} → statement M
 write-spec =

@@ -13,9 +13,13 @@ shift-word-requires c κs = search needs
 
 returns : tie.Need-returns
 returns c =
-    let a = c .before .before .before .args in
-    eight-fed (a .register) (c .before .word .result) (c .shift-word .result) (a .octets .now) (λ i. omega (arith, c .before .before .shared-slice-known .given i)) (c .before .before .before .pre)
-    (c .before .word .ensures) (c .shift-word .ensures)
+    let shared-slice-known = c .before .before .shared-slice-known in
+    let args = c .before .before .before .args in
+    let pre = c .before .before .before .pre in
+    let word = c .before .word in
+    let a = args in
+    eight-fed (a .register) (word .result) (c .shift-word .result) (a .octets .now) (λ i. omega (arith, shared-slice-known .given i)) (pre)
+    (word .ensures) (c .shift-word .ensures)
 
 pub feed-eight-spec : {M : Type 1} → statement M
 feed-eight-spec = tie.close (tie.spec word-requires shift-word-requires returns)

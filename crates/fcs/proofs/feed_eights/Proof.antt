@@ -45,7 +45,9 @@ loop-again c =
       omega arith,
       omega arith,
       omega arith,
-      ap (λ (d : ℕ). feedAll d (drop (l .loop .i + 8) xs)) (c .feed-eight .ensures ∙ ap (λ (k : ℕ). feedAll (l .loop .c) (take k (drop (l .loop .i) xs))) z) ∙ sym (feed-part (l .loop .c) xs (l .loop .i) 8) ∙ l .loop .inv .3,
+      ap (λ (d : ℕ). feedAll d (drop (l .loop .i + 8) xs))
+          (c .feed-eight .ensures ∙ ap (λ (k : ℕ). feedAll (l .loop .c) (take k (drop (l .loop .i) xs))) z) ∙ sym
+          (feed-part (l .loop .c) xs (l .loop .i) 8) ∙ l .loop .inv .3,
     )
 
 returns : tie.Need-returns Inv-loop μ-loop

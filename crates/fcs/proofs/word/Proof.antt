@@ -60,9 +60,12 @@ add-result c = search needs
 
 returns : tie.Need-returns
 returns c =
+    let pair = c .before .before .before .before .before .before .before .before .before .pair in
+    let pair2 = c .before .before .before .before .before .before .pair2 in
+    let pair3 = c .before .before .before .pair3 in
     let a = c .before .before .before .before .before .before .before .before .before .before .before .before .before in
-    eight-word (a .args .o .now) (c .before .before .before .before .before .before .before .before .before .pair .result) (c .before .before .before .before .before .before .pair2 .result) (c .before .before .before .pair3 .result) (c .pair4 .result) (a .pre)
-    (c .before .before .before .before .before .before .before .before .before .pair .ensures .0) (c .before .before .before .before .before .before .pair2 .ensures .0) (c .before .before .before .pair3 .ensures .0) (c .pair4 .ensures .0)
+    eight-word (a .args .o .now) (pair .result) (pair2 .result) (pair3 .result) (c .pair4 .result) (a .pre)
+    (pair .ensures .0) (pair2 .ensures .0) (pair3 .ensures .0) (c .pair4 .ensures .0)
 
 pub word-spec : {M : Type 1} → statement M
 word-spec =

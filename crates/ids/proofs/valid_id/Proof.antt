@@ -49,20 +49,29 @@ part-t-end c = search needs
 
 returns-4 : tie.Need-returns-4
 returns-4 c =
+    let if1 = c .before .before .before .before .before .if1 in
+    let if2 = c .before .before .before .before .if2 in
+    let if3 = c .before .before .if3 in
     let k = c .before .before .before .before .before .before in
     let s = k .before .before .args .s .now in
     let n = k .callsign-length .result in
-    id-bare s n (k .callsign-length .ensures) (c .before .before .before .before .before .if1 .left) (c .before .before .before .before .if2 .left) (take (length s - (n + 1)) (drop (n + 1) s)) (c .before .before .if3 .left) (to-end s (n + 1)) (omega arith)
+    id-bare s n (k .callsign-length .ensures) (if1 .left) (if2 .left) (take (length s - (n + 1)) (drop (n + 1) s)) (if3 .left) (to-end s (n + 1))
+    (omega arith)
 
 all-graphic-requires : tie.Need-all-graphic-requires
 all-graphic-requires c κs = search needs
 
 returns-5 : tie.Need-returns-5
 returns-5 c =
+    let if1 = c .before .before .before .before .before .before .if1 in
+    let if2 = c .before .before .before .before .before .if2 in
+    let if3 = c .before .before .before .if3 in
+    let if4 = c .before .if4 in
     let k = c .before .before .before .before .before .before .before in
     let s = k .before .before .args .s .now in
     let n = k .callsign-length .result in
-    c .all-graphic .ensures ∙ id-rest s n (k .callsign-length .ensures) (c .before .before .before .before .before .before .if1 .left) (c .before .before .before .before .before .if2 .left) (take (length s - (n + 1)) (drop (n + 1) s)) (c .before .before .before .if3 .left) (to-end s (n + 1)) (c .before .if4 .left)
+    c .all-graphic .ensures ∙ id-rest s n (k .callsign-length .ensures) (if1 .left) (if2 .left) (take (length s - (n + 1)) (drop (n + 1) s))
+    (if3 .left) (to-end s (n + 1)) (if4 .left)
 
 pub valid-id-spec : {M : Type 1} → statement M
 valid-id-spec =

@@ -14,7 +14,11 @@ size-requires : tie.Need-size-requires
 size-requires c κs = search needs
 
 returns-2 : tie.Need-returns-2
-returns-2 c = field-closing (c .before .before .before .before .before .args .s .now) (c .before .before .before .before .before .args .p) (c .before .size .result) (c .before .before .before .if1 .left) (c .before .size .ensures) (c .if2 .taken)
+returns-2 c =
+    let args = c .before .before .before .before .before .args in
+    let if1 = c .before .before .before .if1 in
+    let size = c .before .size in
+    field-closing (args .s .now) (args .p) (size .result) (if1 .left) (size .ensures) (c .if2 .taken)
 
 add-a : tie.Need-add-a
 add-a c = search needs
@@ -23,7 +27,12 @@ sub-left : tie.Need-sub-left
 sub-left c = search needs
 
 returns-3 : tie.Need-returns-3
-returns-3 c = field-over (c .before .before .before .before .before .before .args .s .now) (c .before .before .before .before .before .before .args .p) (c .before .before .size .result) (c .before .before .before .before .if1 .left) (c .before .before .size .ensures) (c .before .if2 .left) (c .if3 .taken)
+returns-3 c =
+    let args = c .before .before .before .before .before .before .args in
+    let if1 = c .before .before .before .before .if1 in
+    let size = c .before .before .size in
+    let if2 = c .before .if2 in
+    field-over (args .s .now) (args .p) (size .result) (if1 .left) (size .ensures) (if2 .left) (c .if3 .taken)
 
 add-q : tie.Need-add-q
 add-q c = search needs
@@ -41,10 +50,26 @@ valid-id-requires : tie.Need-valid-id-requires
 valid-id-requires c κs = search needs
 
 returns-4 : tie.Need-returns-4
-returns-4 c = field-id (c .before .before .before .before .before .before .before .before .before .args .s .now) (c .before .before .before .before .before .before .before .before .before .args .p) (c .before .before .before .before .before .size .result) (c .before .before .before .before .before .before .before .if1 .left) (c .before .before .before .before .before .size .ensures) (c .before .before .before .before .if2 .left) (c .before .before .before .if3 .left) (c .before .valid-id .result) (c .before .valid-id .ensures) (c .if4 .taken)
+returns-4 c =
+    let args = c .before .before .before .before .before .before .before .before .before .args in
+    let if1 = c .before .before .before .before .before .before .before .if1 in
+    let size = c .before .before .before .before .before .size in
+    let if2 = c .before .before .before .before .if2 in
+    let if3 = c .before .before .before .if3 in
+    let valid-id = c .before .valid-id in
+    field-id (args .s .now) (args .p) (size .result) (if1 .left) (size .ensures) (if2 .left) (if3 .left) (valid-id .result) (valid-id .ensures)
+    (c .if4 .taken)
 
 returns-5 : tie.Need-returns-5
-returns-5 c = field-odd (c .before .before .before .before .before .before .before .before .before .args .s .now) (c .before .before .before .before .before .before .before .before .before .args .p) (c .before .before .before .before .before .size .result) (c .before .before .before .before .before .before .before .if1 .left) (c .before .before .before .before .before .size .ensures) (c .before .before .before .before .if2 .left) (c .before .before .before .if3 .left) (c .before .valid-id .result) (c .before .valid-id .ensures) (c .if4 .left)
+returns-5 c =
+    let args = c .before .before .before .before .before .before .before .before .before .args in
+    let if1 = c .before .before .before .before .before .before .before .if1 in
+    let size = c .before .before .before .before .before .size in
+    let if2 = c .before .before .before .before .if2 in
+    let if3 = c .before .before .before .if3 in
+    let valid-id = c .before .valid-id in
+    field-odd (args .s .now) (args .p) (size .result) (if1 .left) (size .ensures) (if2 .left) (if3 .left) (valid-id .result) (valid-id .ensures)
+    (c .if4 .left)
 
 pub field-at-spec : {M : Type 1} → statement M
 field-at-spec =

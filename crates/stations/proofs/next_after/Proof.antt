@@ -23,7 +23,11 @@ next-station-sum-requires : tie.Need-next-station-sum-requires
 next-station-sum-requires c κs = search needs
 
 returns-3 : tie.Need-returns-3
-returns-3 c = next-is-index _ _ _ _ _ _ (c .before .before .before .before .if1 .left) (c .before .before .before .if2 .left) (c .next-station-sum .result) (c .next-station-sum .ensures) (c .before .before .if3 .taken)
+returns-3 c =
+    let if1 = c .before .before .before .before .if1 in
+    let if2 = c .before .before .before .if2 in
+    let if3 = c .before .before .if3 in
+    next-is-index _ _ _ _ _ _ (if1 .left) (if2 .left) (c .next-station-sum .result) (c .next-station-sum .ensures) (if3 .taken)
 
 sub-next-station-sum-2 : tie.Need-sub-next-station-sum-2
 sub-next-station-sum-2 c = search needs
@@ -38,7 +42,11 @@ next-station-sum-requires-2 : tie.Need-next-station-sum-requires-2
 next-station-sum-requires-2 c κs = search needs
 
 returns-4 : tie.Need-returns-4
-returns-4 c = next-is-number _ _ _ _ _ _ (c .before .before .before .before .before .if1 .left) (c .before .before .before .before .if2 .left) (c .next-station-sum2 .result) (c .next-station-sum2 .ensures) (c .before .before .if4 .taken)
+returns-4 c =
+    let if1 = c .before .before .before .before .before .if1 in
+    let if2 = c .before .before .before .before .if2 in
+    let if4 = c .before .before .if4 in
+    next-is-number _ _ _ _ _ _ (if1 .left) (if2 .left) (c .next-station-sum2 .result) (c .next-station-sum2 .ensures) (if4 .taken)
 
 returns-5 : tie.Need-returns-5
 returns-5 c = next-is-other _ _ _ _ _ _ (c .before .before .before .if1 .left) (c .before .before .if2 .left) (c .before .if3 .left) (c .if4 .left)

@@ -23,7 +23,8 @@ no-next-requires c κs = search needs
 
 loop-holds : tie.Need-loop-holds Inv-loop μ-loop
 loop-holds c =
-    let a = c .before .before .args in
+    let args = c .before .before .args in
+    let a = args in
     (omega arith, omega arith, ap (λ (x : Next). stationsFrom (a .w) (a .n) 0 0 x 0 (a .s .now)) (c .no-next .ensures) ∙ stations-from-starts (a .w) (a .n) (a .s .now))
 
 field-at-requires : tie.Need-field-at-requires Inv-loop μ-loop
@@ -112,11 +113,13 @@ no-stations-requires-3 c κs = search needs
 
 returns-4 : tie.Need-returns-4 Inv-loop μ-loop
 returns-4 c =
+    let loop-test = c .before .loop-test in
     let l = c .before .before in
     let a = l .before .before .before .args in
     let s = a .s .now in
     c .no-stations3 .ensures
-    ∙ on-length-bad (a .w) (a .n) s (l .loop .p) (l .loop .m) (l .loop .x) (stationsOf (a .w) (a .n) s) (l .loop .inv .2) (field-late s (l .loop .p) (c .before .loop-test .left))
+    ∙ on-length-bad (a .w) (a .n) s (l .loop .p) (l .loop .m) (l .loop .x) (stationsOf (a .w) (a .n) s) (l .loop .inv .2)
+    (field-late s (l .loop .p) (loop-test .left))
 
 pub parse-spec : {M : Type 1} → statement M
 parse-spec =

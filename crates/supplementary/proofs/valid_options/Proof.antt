@@ -35,9 +35,13 @@ count-callsign-requires c κs = search needs
 
 returns-2 : tie.Need-returns-2 Inv-loop μ-loop
 returns-2 c =
+    let loop-test = c .before .before .before .before .loop-test in
+    let if1 = c .before .before .before .if1 in
+    let count-callsign = c .before .count-callsign in
     let l = c .before .before .before .before .before in
     let s = l .before .before .args .s .now in
-    options-third s (l .loop .i) (l .loop .z) (validOptions 0 0 s) (l .loop .inv .2) (c .before .before .before .before .loop-test .taken) (c .before .before .before .if1 .left) (c .before .count-callsign .result) (c .before .count-callsign .ensures) (omega arith)
+    options-third s (l .loop .i) (l .loop .z) (validOptions 0 0 s) (l .loop .inv .2) (loop-test .taken) (if1 .left) (count-callsign .result)
+    (count-callsign .ensures) (omega arith)
 
 shared-slice-read-size : tie.Need-shared-slice-read-size Inv-loop μ-loop
 shared-slice-read-size c = search needs
@@ -53,9 +57,15 @@ sub-left c = search needs
 
 returns-3 : tie.Need-returns-3 Inv-loop μ-loop
 returns-3 c =
+    let loop-test = c .before .before .before .before .before .before .before .loop-test in
+    let if1 = c .before .before .before .before .before .before .if1 in
+    let count-callsign = c .before .before .before .before .count-callsign in
+    let if2 = c .before .before .before .if2 in
+    let size = c .before .size in
     let l = c .before .before .before .before .before .before .before .before in
     let s = l .before .before .args .s .now in
-    options-over s (l .loop .i) (l .loop .z) (validOptions 0 0 s) (l .loop .inv .2) (c .before .before .before .before .before .before .before .loop-test .taken) (c .before .before .before .before .before .before .if1 .left) (c .before .before .before .before .count-callsign .result) (c .before .before .before .before .count-callsign .ensures) (c .before .before .before .if2 .left) (c .before .size .result) (c .before .size .ensures) (c .if3 .taken)
+    options-over s (l .loop .i) (l .loop .z) (validOptions 0 0 s) (l .loop .inv .2) (loop-test .taken) (if1 .left) (count-callsign .result)
+    (count-callsign .ensures) (if2 .left) (size .result) (size .ensures) (c .if3 .taken)
 
 add-i : tie.Need-add-i Inv-loop μ-loop
 add-i c = search needs
@@ -65,11 +75,17 @@ loop-less c = search needs
 
 loop-again : tie.Need-loop-again Inv-loop μ-loop
 loop-again c =
+    let loop-test = c .before .before .before .before .before .before .before .loop-test in
+    let if1 = c .before .before .before .before .before .before .if1 in
+    let count-callsign = c .before .before .before .before .count-callsign in
+    let if2 = c .before .before .before .if2 in
+    let size = c .before .size in
     let l = c .before .before .before .before .before .before .before .before in
     let s = l .before .before .args .s .now in (
       omega arith,
-      c .before .before .before .if2 .left,
-      options-on s (l .loop .i) (l .loop .z) (validOptions 0 0 s) (l .loop .inv .2) (c .before .before .before .before .before .before .before .loop-test .taken) (c .before .before .before .before .before .before .if1 .left) (c .before .before .before .before .count-callsign .result) (c .before .before .before .before .count-callsign .ensures) (c .before .before .before .if2 .left) (c .before .size .result) (c .before .size .ensures) (c .if3 .left),
+      if2 .left,
+      options-on s (l .loop .i) (l .loop .z) (validOptions 0 0 s) (l .loop .inv .2) (loop-test .taken) (if1 .left) (count-callsign .result)
+          (count-callsign .ensures) (if2 .left) (size .result) (size .ensures) (c .if3 .left),
     )
 
 returns-4 : tie.Need-returns-4 Inv-loop μ-loop

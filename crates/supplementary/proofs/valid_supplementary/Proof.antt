@@ -27,16 +27,23 @@ part-t-end c = search needs
 
 returns-2 : tie.Need-returns-2
 returns-2 c =
-    let s = c .before .before .before .before .before .before .args .s .now in
-    wrong-length s (take (length s - 1) (drop 1 s)) (c .before .before .size .result) (c .before .before .before .before .if1 .left) (c .before .before .size .ensures) refl (c .if2 .taken)
+    let args = c .before .before .before .before .before .before .args in
+    let if1 = c .before .before .before .before .if1 in
+    let size = c .before .before .size in
+    let s = args .s .now in
+    wrong-length s (take (length s - 1) (drop 1 s)) (size .result) (if1 .left) (size .ensures) refl (c .if2 .taken)
 
 valid-options-requires : tie.Need-valid-options-requires
 valid-options-requires c κs = search needs
 
 returns-3 : tie.Need-returns-3
 returns-3 c =
-    let s = c .before .before .before .before .before .before .before .args .s .now in
-    c .valid-options .ensures ∙ right-length s (take (length s - 1) (drop 1 s)) (c .before .before .before .size .result) (c .before .before .before .before .before .if1 .left) (c .before .before .before .size .ensures) refl (c .before .if2 .left)
+    let args = c .before .before .before .before .before .before .before .args in
+    let if1 = c .before .before .before .before .before .if1 in
+    let size = c .before .before .before .size in
+    let if2 = c .before .if2 in
+    let s = args .s .now in
+    c .valid-options .ensures ∙ right-length s (take (length s - 1) (drop 1 s)) (size .result) (if1 .left) (size .ensures) refl (if2 .left)
 
 pub valid-supplementary-spec : {M : Type 1} → statement M
 valid-supplementary-spec =
