@@ -75,7 +75,8 @@ module _ {A : Type 0} (refuse : ℕ → A) (done : A) (f : List ℕ) where
 
   split₁ : guarded (refusals f) refuse done ≡ guarded (envelopeRefusals f) refuse second
   unfolding refusals
-  split₁ = guarded-++ refuse done (envelopeRefusals f) (fixedRefusals f ++ (stationRefusals f (stationsIn f) ++ restRefusals f (stationsIn f .end)))
+  split₁ =
+      cc (guarded-++ refuse done (envelopeRefusals f) (fixedRefusals f ++ (stationRefusals f (stationsIn f) ++ restRefusals f (stationsIn f .end))))
 
   split₂ : second ≡ guarded (fixedRefusals f) refuse third
   split₂ = guarded-++ refuse done (fixedRefusals f) (stationRefusals f (stationsIn f) ++ restRefusals f (stationsIn f .end))

@@ -135,8 +135,8 @@ fn stations_in(f: &[u8]) -> Stations
     ensures { λ r. ⌜ r ≡ stationsIn (now (f .entry)) ⌝ }
 {
     let o = size(f[3]);
-    let e = o - 1;
-    let variable = &f[FIELDS_AT..e];
+    let sum_at = o - 1;
+    let variable = &f[FIELDS_AT..sum_at];
     let t = size(f[4]);
     if t < FIELDS_AT {
         return stations::parse(variable, 0, 0);

@@ -71,7 +71,7 @@ module _ (f : List ℕ) (ok : Passed (refusals f)) where
   unfolding fixedRefusals
   version-is = eqb-true (octet f 1) version (not-false _ (fixed-more .0 .0))
 
-  protocol-below : octet f 2 < firstReserved
+  pub protocol-below : octet f 2 < firstReserved
   unfolding fixedRefusals
   protocol-below = leb-false firstReserved (octet f 2) (fixed-more .0 .1 .0)
 
@@ -95,7 +95,7 @@ module _ (f : List ℕ) (ok : Passed (refusals f)) where
   unfolding stationRefusals
   offset-right = eqb-true (octet f 4) (nextOffset (stationsIn f .next)) (not-false _ (station-more .0 .1 .0))
 
-  next-there : lacksNext (stationsIn f) ≡ false
+  pub next-there : lacksNext (stationsIn f) ≡ false
   unfolding stationRefusals
   next-there = station-more .0 .1 .1 .0
 
@@ -185,7 +185,7 @@ module _ (f : List ℕ) (ok : Passed (refusals f)) where
           ap (λ (r : Stations). stationsOf 0 (r .next .number) v) in-is ∙ by-number (octet f 4 - fieldsAt) 0 v g ∙ sym in-is
 
   -- and among the station fields alone
-  found-alone : stationsOf 0 n s ≡ stationsIn f
+  pub found-alone : stationsOf 0 n s ≡ stationsIn f
   found-alone =
       let i : stationsOf 0 n v .end ≡ k = ap (λ (r : Stations). r .end) found-by-number in
       let q : take k s ≡ take k v = take-take k k v (omega arith) in

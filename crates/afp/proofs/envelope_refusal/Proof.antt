@@ -37,7 +37,7 @@ mul-received : tie.Need-mul-received
 mul-received c =
     let shared-slice-known = c .before .before .before .before .before .before .shared-slice-known in
     let args = c .before .before .before .before .before .before .before .args in
-    omega (arith, shared-slice-known .given (length (args .f .now) - 1))
+    omega (arith, shared-slice-known .given (length (args .f .now) - 1), shared-slice-known .given (length (args .f .now) - 2))
 
 add-received : tie.Need-add-received
 add-received c =

@@ -12,8 +12,8 @@ shared-slice-read-size c = search needs
 size-requires : tie.Need-size-requires
 size-requires c κs = search needs
 
-sub-e : tie.Need-sub-e
-sub-e c = search needs
+sub-sum-at : tie.Need-sub-sum-at
+sub-sum-at c = search needs
 
 sub-variable : tie.Need-sub-variable
 sub-variable c = search needs
@@ -56,7 +56,7 @@ stations-in-spec =
     (tie.spec
     shared-slice-read-size
     size-requires
-    sub-e
+    sub-sum-at
     sub-variable
     part-variable-start
     part-variable-end

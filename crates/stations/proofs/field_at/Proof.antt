@@ -1,4 +1,5 @@
 -- `stations::field_at` meets its contract. Assumes nothing.
+use native.Mathlib.Omega.{arith}
 use Rattle.stations.proofs.Fields.{field-late, field-closing, field-over, field-id, field-odd}
 use borrow.Author.Needs.{needs}
 use Rattle.stations.proofs.field_at.Statement.{statement}
@@ -18,7 +19,7 @@ returns-2 c =
     let args = c .before .before .before .before .before .args in
     let if1 = c .before .before .before .if1 in
     let size = c .before .size in
-    field-closing (args .s .now) (args .p) (size .result) (if1 .left) (size .ensures) (c .if2 .taken)
+    field-closing (args .s .now) (args .p) (size .result) (if1 .left) (size .ensures) (omega arith)
 
 add-a : tie.Need-add-a
 add-a c = search needs
@@ -32,7 +33,7 @@ returns-3 c =
     let if1 = c .before .before .before .before .if1 in
     let size = c .before .before .size in
     let if2 = c .before .if2 in
-    field-over (args .s .now) (args .p) (size .result) (if1 .left) (size .ensures) (if2 .left) (c .if3 .taken)
+    field-over (args .s .now) (args .p) (size .result) (if1 .left) (size .ensures) (if2 .left) (omega arith)
 
 add-q : tie.Need-add-q
 add-q c = search needs

@@ -57,7 +57,7 @@ returns-2 c =
     let s = a .s .now in
     let b : Closing ≡ fieldAt s (l .loop .p) = sym (c .before .before .enum-told2 .given .1) ∙ c .before .before .before .before .field-at .ensures in
     c .no-stations2 .ensures
-    ∙ sym (closed-none (l .loop .p) (l .loop .m) (l .loop .x) (c .before .if1 .taken))
+    ∙ sym (closed-none (l .loop .p) (l .loop .m) (l .loop .x) (omega arith))
     ∙ on-length-closing (a .w) (a .n) s (l .loop .p) (l .loop .m) (l .loop .x) (stationsOf (a .w) (a .n) s) (l .loop .inv .2) b
 
 add-t12 : tie.Need-add-t12 Inv-loop μ-loop

@@ -65,7 +65,7 @@ returns-3 c =
     let l = c .before .before .before .before .before .before .before .before in
     let s = l .before .before .args .s .now in
     options-over s (l .loop .i) (l .loop .z) (validOptions 0 0 s) (l .loop .inv .2) (loop-test .taken) (if1 .left) (count-callsign .result)
-    (count-callsign .ensures) (if2 .left) (size .result) (size .ensures) (c .if3 .taken)
+    (count-callsign .ensures) (omega arith) (size .result) (size .ensures) (omega arith)
 
 add-i : tie.Need-add-i Inv-loop μ-loop
 add-i c = search needs
@@ -83,9 +83,9 @@ loop-again c =
     let l = c .before .before .before .before .before .before .before .before in
     let s = l .before .before .args .s .now in (
       omega arith,
-      if2 .left,
+      omega arith,
       options-on s (l .loop .i) (l .loop .z) (validOptions 0 0 s) (l .loop .inv .2) (loop-test .taken) (if1 .left) (count-callsign .result)
-          (count-callsign .ensures) (if2 .left) (size .result) (size .ensures) (c .if3 .left),
+          (count-callsign .ensures) (omega arith) (size .result) (size .ensures) (omega arith),
     )
 
 returns-4 : tie.Need-returns-4 Inv-loop μ-loop

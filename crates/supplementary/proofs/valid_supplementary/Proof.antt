@@ -1,4 +1,5 @@
 -- `supplementary::valid_supplementary` meets its contract. Assumes nothing.
+use native.Mathlib.Omega.{arith}
 use mathlib.Core.Path.{refl, _∙_}
 use Prim.Native.Nat.{_-_}
 use lib.ListN.{length, take, drop}
@@ -31,7 +32,7 @@ returns-2 c =
     let if1 = c .before .before .before .before .if1 in
     let size = c .before .before .size in
     let s = args .s .now in
-    wrong-length s (take (length s - 1) (drop 1 s)) (size .result) (if1 .left) (size .ensures) refl (c .if2 .taken)
+    wrong-length s (take (length s - 1) (drop 1 s)) (size .result) (if1 .left) (size .ensures) refl (λ e. c .if2 .taken (omega arith))
 
 valid-options-requires : tie.Need-valid-options-requires
 valid-options-requires c κs = search needs
@@ -43,7 +44,7 @@ returns-3 c =
     let size = c .before .before .before .size in
     let if2 = c .before .if2 in
     let s = args .s .now in
-    c .valid-options .ensures ∙ right-length s (take (length s - 1) (drop 1 s)) (size .result) (if1 .left) (size .ensures) refl (if2 .left)
+    c .valid-options .ensures ∙ right-length s (take (length s - 1) (drop 1 s)) (size .result) (if1 .left) (size .ensures) refl (omega arith)
 
 pub valid-supplementary-spec : {M : Type 1} → statement M
 valid-supplementary-spec =
