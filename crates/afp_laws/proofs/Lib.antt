@@ -3,6 +3,7 @@ pub mod Written
 pub mod Accepted
 pub mod Meanings
 pub mod Writable
+pub mod ReadProper
 pub mod Changed
 pub mod Theorems
 pub mod Worked

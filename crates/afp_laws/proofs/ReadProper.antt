@@ -1,27 +1,26 @@
 -- Whatever a frame means keeps the paper's rules. Assumes nothing.
 use mathlib.Core.Path.{_≡_, refl, sym, ap, ap₂, _∙_}
 use mathlib.Core.Bool.{Bool, true, false, not, _&&_}
-use mathlib.Core.List.{List, [], _∷_, _++_, append-nil}
-use Prim.Native.Nat.{ℕ, zero, suc, _+_, _-_, _≤_, _<_}
+use mathlib.Core.List.{List, [], _∷_, append-nil}
+use Prim.Native.Nat.{ℕ, _-_, _≤_, _<_}
 use native.Mathlib.Omega.{arith}
-use borrow.Author.Tests.{leb-true, leb-false, eqb-true, eqb-false, eq-eqb, ne-eqb}
+use borrow.Author.Tests.{leb-true, leb-false, eq-eqb, ne-eqb}
 use lib.Dec.{leb, eqb}
 use lib.ListN.{length, take, drop}
 use Rattle.common.proofs.Refusals.{Passed}
 use Rattle.stations.specs.declared.Next.{Next}
 use Rattle.stations.specs.declared.Stations.{Stations}
-use Rattle.stations.specs.Fields.{noNext, malformed, closedAt, stationsFrom, stationsOf, lacksNext}
+use Rattle.stations.specs.Fields.{closedAt, stationsFrom, stationsOf, lacksNext}
 use Rattle.stations.specs.IdList.{fieldsOf, idsOf, allValid}
 use Rattle.stations.proofs.Extent.{Accepted}
 use Rattle.stations.proofs.IdList.{fields-ids, count-ids, ids-valid}
 use Rattle.stations.proofs.NextField.{next-none}
 use Rattle.supplementary.specs.Options.{validSupplementary, supplementaryOctets, supplementaryIn}
 use Rattle.supplementary.proofs.Options.{octets-in}
-use Rattle.afp.specs.Layout.{octet, offset, checkedPart, variablePart, stationsIn}
+use Rattle.afp.specs.Layout.{offset, variablePart, stationsIn}
 use Rattle.afp.specs.Reading.{refusals}
-use Rattle.afp.specs.Meaning.{Meaning, means, meaning}
 use Rattle.afp_write.specs.Frame.{headerLength}
-use Rattle.afp_laws.specs.Parts.{Parts, partsIn, meaningOf}
+use Rattle.afp_laws.specs.Parts.{partsIn, meaningOf}
 use Rattle.afp_laws.specs.Proper.{Proper}
 use Rattle.afp_laws.proofs.Accepted.{protocol-below, stations-accepted, supplementary-valid, payload-short, offset-low, offset-high, length-s, length-d, header-length, found-alone, next-there}
 
@@ -53,6 +52,15 @@ module _ (n : ℕ) (is : List (List ℕ)) (g : allValid is ≡ true) (some : len
       by true true i j = (leb-true 2 n i, leb-true n (length is) j)
       by true false i j = absurd (z (not-found (λ l. leb-false n (length is) j)))
       by false b i j = absurd (z (not-found (λ l. absurd (let k : n < 2 = leb-false 2 n i in omega arith))))
+
+both : (a b : Bool) → a ≡ false → b ≡ true → (not a && b) ≡ false → ⊥
+both false true p q r = let y : _≡_ {A = ℕ} 0 1 = cc in omega arith
+both true b p q r = let y : _≡_ {A = ℕ} 0 1 = cc in omega arith
+both false false p q r = let y : _≡_ {A = ℕ} 0 1 = cc in omega arith
+
+lacking : (r : Stations) → (r .count ≡ 1 → ⊥) → r .next .number ≡ 0 → lacksNext r ≡ false → ⊥
+unfolding lacksNext
+lacking r a b c = both (eqb (r .count) 1) (eqb (r .next .number) 0) (ne-eqb (r .count) 1 a) (eq-eqb (r .next .number) 0 b) c
 
 module _ (f : List ℕ) (ok : Passed (refusals f)) where
   abbrev k : ℕ
@@ -95,18 +103,7 @@ module _ (f : List ℕ) (ok : Passed (refusals f)) where
   count = ap (λ (r : Stations). r .count) (sym alone) ∙ count-ids 0 n s accepted ended
 
   not-zero : 2 ≤ length is → n ≡ 0 → ⊥
-  not-zero l z = let e = count in by (ne-eqb (stationsIn f .count) 1 (λ o. omega arith)) (eq-eqb n 0 z) (next-there f ok)
-    where
-      by : eqb (stationsIn f .count) 1 ≡ false → eqb n 0 ≡ true → lacksNext (stationsIn f) ≡ false → ⊥
-      by a b c = both (eqb (stationsIn f .count) 1) (eqb n 0) a b (lacks ∙ c)
-        where
-          lacks : (not (eqb (stationsIn f .count) 1) && eqb n 0) ≡ lacksNext (stationsIn f)
-          lacks = refl
-
-          both : (a b : Bool) → a ≡ false → b ≡ true → (not a && b) ≡ false → ⊥
-          both false true p q r = let y : _≡_ {A = ℕ} 0 1 = cc in omega arith
-          both true b p q r = let y : _≡_ {A = ℕ} 0 1 = cc in omega arith
-          both false false p q r = let y : _≡_ {A = ℕ} 0 1 = cc in omega arith
+  not-zero l z = let e = count in lacking (stationsIn f) (λ o. omega arith) z (next-there f ok)
 
   octets-are : supplementaryOctets (supplementaryIn h) ≡ h
   octets-are = octets-in h (supplementary-valid f ok)
@@ -114,9 +111,9 @@ module _ (f : List ℕ) (ok : Passed (refusals f)) where
   header-is : headerLength (length (fieldsOf is)) (length (supplementaryOctets (supplementaryIn h))) ≡ offset f
   header-is = ap₂ (λ (a b : List ℕ). headerLength (length a) (length b)) fields-are octets-are ∙ header-length f ok
 
-  pub read-proper : Proper (meaningOf (partsIn f))
+  pub parts-proper : Proper (meaningOf (partsIn f))
   unfolding meaningOf partsIn
-  read-proper =
+  parts-proper =
       let e = header-is in
       let a = offset-low f ok in
       let b = offset-high f ok in

@@ -4,6 +4,7 @@
 --
 --   one-meaning         an answer of the reader shows the frame's meaning, or the first refusal
 --   proper-written      every meaning that keeps the paper's rules is written, given room
+--   read-proper         whatever a frame means keeps the paper's rules
 --   written-read        what is written reads as what was given, checked
 --   read-written        what a frame means can be written, and reads as the same meaning
 --   read-written-again  a frame that was checked comes back octet for octet
@@ -31,6 +32,7 @@ use Rattle.afp_laws.proofs.Written.{encode-passes, encode-checked, enco
 use Rattle.afp_laws.proofs.Accepted.{long-enough, short-enough, check-right, offset-low, offset-high, offset-in, length-d, payload-short, parts-pass, frame-again}
 use Rattle.afp_laws.proofs.Meanings.{passed-meaning, meaning-passed, meaning-is, unchecked-is, parts-meaning, answer-passed, answer-is, sent-is}
 use Rattle.afp_laws.proofs.Writable.{proper-writable}
+use Rattle.afp_laws.proofs.ReadProper.{parts-proper}
 use Rattle.afp_laws.proofs.Changed.{changed-refused}
 use Rattle.afp_laws.specs.Proper.{Proper}
 
@@ -83,6 +85,9 @@ module _ (f : List ℕ) (m : Meaning) (u : Bool) (e : meaning f ≡ means m u) (
 module _ (f : List ℕ) (m : Meaning) (u : Bool) (e : meaning f ≡ means m u) where
   ok : Passed (refusals f)
   ok = meaning-passed f m u e
+
+  pub read-proper : Proper m
+  read-proper = rw (sym (meaning-is f m u e)) (parts-proper f ok)
 
   payload-is : m .payload ≡ drop (offset f) (checkedPart f)
   unfolding meaningOf partsIn
