@@ -1,12 +1,13 @@
 -- Whatever a frame means keeps the paper's rules. Assumes nothing.
 use mathlib.Core.Path.{_≡_, refl, sym, ap, ap₂, _∙_}
-use mathlib.Core.Bool.{Bool, true, false, not, _&&_}
+use mathlib.Core.Bool.{Bool, true, false}
 use mathlib.Core.List.{List, [], _∷_, append-nil}
 use Prim.Native.Nat.{ℕ, _-_, _≤_, _<_}
 use native.Mathlib.Omega.{arith}
 use borrow.Author.Tests.{leb-true, leb-false, eq-eqb, ne-eqb}
 use lib.Dec.{leb, eqb}
 use lib.ListN.{length, take, drop}
+use Rattle.common.proofs.Equations.{not-and}
 use Rattle.common.proofs.Refusals.{Passed}
 use Rattle.stations.specs.declared.Next.{Next}
 use Rattle.stations.specs.declared.Stations.{Stations}
@@ -53,14 +54,9 @@ module _ (n : ℕ) (is : List (List ℕ)) (g : allValid is ≡ true) (some : len
       by true false i j = absurd (z (not-found (λ l. leb-false n (length is) j)))
       by false b i j = absurd (z (not-found (λ l. absurd (let k : n < 2 = leb-false 2 n i in omega arith))))
 
-both : (a b : Bool) → a ≡ false → b ≡ true → (not a && b) ≡ false → ⊥
-both false true p q r = let y : _≡_ {A = ℕ} 0 1 = cc in omega arith
-both true b p q r = let y : _≡_ {A = ℕ} 0 1 = cc in omega arith
-both false false p q r = let y : _≡_ {A = ℕ} 0 1 = cc in omega arith
-
 lacking : (r : Stations) → (r .count ≡ 1 → ⊥) → r .next .number ≡ 0 → lacksNext r ≡ false → ⊥
 unfolding lacksNext
-lacking r a b c = both (eqb (r .count) 1) (eqb (r .next .number) 0) (ne-eqb (r .count) 1 a) (eq-eqb (r .next .number) 0 b) c
+lacking r a b c = not-and (eqb (r .count) 1) (eqb (r .next .number) 0) (ne-eqb (r .count) 1 a) (eq-eqb (r .next .number) 0 b) c
 
 module _ (f : List ℕ) (ok : Passed (refusals f)) where
   abbrev k : ℕ

@@ -1,6 +1,6 @@
 -- A frame that the writer accepts reads as what it was given, checked. Assumes nothing.
 use mathlib.Core.Path.{_≡_, refl, sym, ap, ap₂, _∙_}
-use mathlib.Core.Bool.{Bool, true, false, not, _||_}
+use mathlib.Core.Bool.{Bool, true, false, not}
 use mathlib.Core.List.{List, _++_}
 use Prim.Native.Nat.{ℕ, _+_, _-_, _≤_, _<_}
 use native.Mathlib.Omega.{arith}
@@ -8,6 +8,7 @@ use borrow.Author.Tests.{ltb-false, leb-false, eqb-true, eqb-false, not-false, l
 use lib.Dec.{leb, eqb}
 use lib.ListN.{length, take, drop}
 use lib.Seq.{take-at, drop-at, take-length}
+use Rattle.common.proofs.Equations.{or-right}
 use Rattle.common.proofs.Refusals.{Passed}
 use Rattle.common.proofs.FirstRefusal.{passed-++, passed-append}
 use Rattle.sums.specs.Sum.{notCalculated, headerSum}
@@ -50,10 +51,6 @@ module _ (n : ℕ) (s t : List ℕ) (a : Accepted (stationsOf 0 n s)) (e : stati
           let k : stationsOf 0 n t .next .index ≡ stationsOf 0 n s .next .index = ap (λ (r : Stations). r .next .index) same in
           let w : nextOffset (stationsOf 0 n s .next) - fieldsAt ≡ stationsOf 0 n t .next .index = omega arith in
           ap (λ (w : ℕ). stationsOf w 0 t) w ∙ by-index 0 n t f ∙ same
-
-or-right : (a b : Bool) → b ≡ true → (a || b) ≡ true
-or-right true b h = refl
-or-right false b h = h
 
 module _ (p : ℕ) (s : List ℕ) (n : ℕ) (h d : List ℕ) (room : ℕ) (ok : Passed (writeRefusals p s n h d room)) where
   -- ---- what the writer's tests say

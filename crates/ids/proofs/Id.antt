@@ -1,4 +1,4 @@
--- Laws of the rule of an ID at a place of a list.
+-- Laws of the ID rule at an index of a list. Assumes nothing.
 use mathlib.Core.Path.{_≡_, sym, _∙_}
 use mathlib.Core.Bool.{Bool, true, false, cond, not, _&&_}
 use mathlib.Core.List.{List, _∷_}

@@ -1,5 +1,4 @@
--- Laws of the stationsFrom over station fields: what it reads, and that seeking by place and by number find the same.
--- Assumes nothing.
+-- Where station fields end, and that nothing behind their end is read. Assumes nothing.
 use mathlib.Core.Path.{_≡_, refl, sym, ap, _∙_}
 use mathlib.Core.Bool.{Bool, true, false, cond}
 use mathlib.Core.List.{List, [], _∷_}
@@ -55,7 +54,7 @@ stations-from-ends w n p m x zero (a ∷ s) h₀ =
     (λ h. absurd (h refl))
     h₀
 
--- ---- the stationsFrom reads no further than the end of the fields
+-- ---- nothing behind the end of the fields is read
 abbrev Read : (p : ℕ) → List ℕ → List ℕ → Stations → Type 0
 Read p s t r = take (r .end - p) t ≡ take (r .end - p) s
 
@@ -114,7 +113,7 @@ module _ (w n : ℕ) where
       let u : take a t ≡ take a s = agree-less a (go .end - (p + 1)) s t (omega arith) v in
       (rw u, rw u (stations-from-local (p + 1) (m + 1) (nextAfter w n p (m + 1) (a ∷ take a s) x) a s t g v))))
 
--- ---- the next station's place is within the fields
+-- ---- the next station's index is within the fields
 next-after-place : (w n p m : ℕ) (f : List ℕ) (x : Next) → x .index ≤ p → nextAfter w n p m f x .index ≤ p
 unfolding nextAfter
 next-after-place w n p m f x h = by (eqb m 1) (eqb (x .number) 0) (matches w n p m)

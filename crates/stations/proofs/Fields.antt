@@ -1,5 +1,4 @@
--- Laws of the station fields at a place of a list, for field_at and the loop of stations.
--- Assumes nothing.
+-- Laws of the station fields at an index of a list, for field_at and the loop of parse. Assumes nothing.
 use mathlib.Core.Path.{_≡_, refl, sym, ap, ap₂, _∙_}
 use mathlib.Core.Bool.{Bool, true, false, cond}
 use mathlib.Core.List.{List, [], _∷_}
@@ -61,7 +60,7 @@ stations-from-short w n p m x zero s h = absurd (omega arith)
 stations-from-short w n p m x (suc k) [] h = refl
 stations-from-short w n p m x (suc k) (a ∷ s) h = stations-from-short w n (p + 1) m x k s (omega arith)
 
--- ---- a onLength of the stationsFrom, by what stands at its place
+-- ---- one field more, by what stands at its index
 module _ (w n : ℕ) (s : List ℕ) (p m : ℕ) (x : Next) where
   abbrev a : ℕ
   a = getD s p 0

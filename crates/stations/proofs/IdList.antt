@@ -8,6 +8,7 @@ use borrow.Author.Tests.{eqb-true, ne-eqb}
 use lib.Dec.{eqb}
 use lib.ListN.{length, take, length-append}
 use lib.Seq.{length-take-le, take-at, drop-at}
+use Rattle.common.proofs.Equations.{and-both}
 use Rattle.ids.specs.Id.{validId, callsignLength}
 use Rattle.stations.specs.Fields.{noNext, malformed, nextAfter, closedAt, stationsFrom, stationsOf}
 use Rattle.stations.specs.IdList.{fieldsOf, idsFrom, idsOf, allValid}
@@ -114,15 +115,11 @@ unfolding validId callsignLength
 not-empty [] g z = let y : _≡_ {A = ℕ} 0 1 = cc in omega arith
 not-empty (a ∷ i) g z = omega arith
 
-pub and-true : (a b : Bool) → (a && b) ≡ true → (a ≡ true) × (b ≡ true)
-and-true true b h = (refl, h)
-and-true false b h = let y : _≡_ {A = ℕ} 0 1 = cc in absurd (omega arith)
-
 pub ids-fields : (is : List (List ℕ)) → allValid is ≡ true → idsOf (fieldsOf is) ≡ is
 unfolding fieldsOf allValid
 ids-fields [] g = ids-none 0 [] refl
 ids-fields (i ∷ is) g =
-    let q = and-true (validId i) (allValid is) g in
+    let q = and-both (validId i) (allValid is) g in
     ids-some (length i) (i ++ fieldsOf is) (ne-eqb (length i) 0 (not-empty i (q .0)))
     ∙ ap₂ (λ (i : List ℕ) (is : List (List ℕ)). i ∷ is) (take-at i (fieldsOf is) (length i) refl) (ids-pass i (fieldsOf is) ∙ ids-fields is (q .1))
 
@@ -152,7 +149,7 @@ module _ (w n : ℕ) (t : List ℕ) where
   unfolding fieldsOf allValid
   from-end p m x [] h g = ap (λ (r : Stations). r .end) (closing p m x) ∙ closed-end p m x (λ e. h (omega arith))
   from-end p m x (i ∷ is) h g =
-      let q = and-true (validId i) (allValid is) g in
+      let q = and-both (validId i) (allValid is) g in
       let y = nextAfter w n p (m + 1) (length i ∷ i) x in
       let l = length-append i (fieldsOf is) in
       ap (λ (s : List ℕ). stationsFrom w n p m x 0 (length i ∷ s) .end) (append-assoc i (fieldsOf is) t)

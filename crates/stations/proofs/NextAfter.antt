@@ -1,11 +1,11 @@
--- The answers of next_after.
--- Assumes nothing.
+-- The answers of next_after, one law for each. Assumes nothing.
 use mathlib.Core.Path.{_≡_, refl, sym, ap, ap₂, _∙_}
 use mathlib.Core.Bool.{Bool, true, false, cond, _||_}
 use mathlib.Core.List.{List}
 use Prim.Native.Nat.{ℕ}
 use borrow.Author.Tests.{eq-eqb, ne-eqb}
 use lib.Dec.{eqb}
+use Rattle.common.proofs.Equations.{or-right}
 use Rattle.sums.specs.Sum.{nextStationSum}
 use Rattle.stations.specs.Fields.{nextAfter, matches}
 use Rattle.stations.specs.declared.Next.{Next}
@@ -43,8 +43,4 @@ module _ (w n p m : ℕ) (field : List ℕ) (x : Next) where
       next-is-index k = found (ap (λ (c : Bool). c || eqb m n) (eq-eqb p w k))
 
       pub next-is-number : m ≡ n → record { number = m; index = p; sum = t } ≡ nextAfter w n p m field x
-      next-is-number l = found (right (eqb p w) (eqb m n) (eq-eqb m n l))
-        where
-          right : (a b : Bool) → b ≡ true → (a || b) ≡ true
-          right true b e = refl
-          right false b e = e
+      next-is-number l = found (or-right (eqb p w) (eqb m n) (eq-eqb m n l))

@@ -8,6 +8,7 @@ use native.Mathlib.Omega.{arith}
 use borrow.Author.Tests.{eq-eqb, ne-eqb}
 use lib.Dec.{eqb}
 use lib.ListN.{length, getD, take, length-append}
+use Rattle.common.proofs.Equations.{or-right, or-none, and-both}
 use Rattle.sums.specs.Sum.{nextStationSum}
 use Rattle.ids.specs.Id.{validId}
 use Rattle.stations.specs.Fields.{noNext, malformed, nextAfter, closedAt, stationsFrom, stationsOf}
@@ -15,8 +16,8 @@ use Rattle.stations.specs.IdList.{fieldsOf, allValid, fieldOf, indexOf}
 use Rattle.stations.specs.declared.Next.{Next}
 use Rattle.stations.specs.declared.Stations.{Stations}
 use Rattle.stations.proofs.Offset.{Found}
-use Rattle.stations.proofs.Search.{here, next-after-found, next-after-source, next-after-here, next-after-other, by-index, or-none, or-right}
-use Rattle.stations.proofs.IdList.{and-true, closing, pass-id}
+use Rattle.stations.proofs.Search.{here, next-after-found, next-after-source, next-after-here, next-after-other, by-index}
+use Rattle.stations.proofs.IdList.{closing, pass-id}
 
 -- the ID number n as the next station
 abbrev pub nextOf : ℕ → List (List ℕ) → Next
@@ -46,7 +47,7 @@ module _ (w n : ℕ) (t : List ℕ) where
   unfolding fieldsOf allValid
   kept p m x [] h f g = ap (λ (r : Stations). r .next) (closing w n t p m x) ∙ closed-next p m x (λ e. h (omega arith))
   kept p m x (i ∷ is) h f g =
-      let q = and-true (validId i) (allValid is) g in
+      let q = and-both (validId i) (allValid is) g in
       ap (λ (r : Stations). r .next) (pass p m x i is (q .0))
       ∙ ap (λ (x : Next). stationsFrom w n (p + 1 + length i) (m + 1) x 0 (fieldsOf is ++ t) .next) (next-after-found w n p (m + 1) (fieldOf i) x f)
       ∙ kept (p + 1 + length i) (m + 1) x is (λ e. omega arith) f (q .1)
@@ -67,7 +68,7 @@ module _ (n : ℕ) (t : List ℕ) where
   unfolding allValid fieldsOf
   found-on p m j [] e s l h g = absurd (omega arith)
   found-on p m zero (i ∷ is) e s l h g =
-      let q = and-true (validId i) (allValid is) g in
+      let q = and-both (validId i) (allValid is) g in
       let k : n ≡ m + 1 = omega arith in
       let z : p + 0 ≡ p = omega arith in
       let f : Found (here p (m + 1) (fieldOf i)) = λ z. omega arith in
@@ -77,7 +78,7 @@ module _ (n : ℕ) (t : List ℕ) where
       ∙ kept 0 n t (p + 1 + length i) (m + 1) (here p (m + 1) (fieldOf i)) is (λ z. omega arith) f (q .1)
       ∙ ap₂ (λ (k p : ℕ). record { number = k; index = p; sum = nextStationSum (fieldOf i) }) (sym k) (sym z)
   found-on p m (suc j) (i ∷ is) e s l h g =
-      let q = and-true (validId i) (allValid is) g in
+      let q = and-both (validId i) (allValid is) g in
       let a = length-append i (fieldsOf (take j is)) in
       let b = fields-some (take j is) in
       let z : p + 1 + length i + (length (fieldsOf (take j is)) - 1) ≡ p + (suc (length (i ++ fieldsOf (take j is))) - 1) = omega arith in
@@ -92,7 +93,7 @@ module _ (n : ℕ) (t : List ℕ) where
   unfolding allValid fieldsOf
   none-on p m [] s l h g = ap (λ (r : Stations). r .next) (closing 0 n t p m noNext) ∙ closed-next p m noNext (λ e. s (omega arith))
   none-on p m (i ∷ is) s l h g =
-      let q = and-true (validId i) (allValid is) g in
+      let q = and-both (validId i) (allValid is) g in
       ap (λ (r : Stations). r .next) (pass 0 n t p m noNext i is (q .0))
       ∙ ap (λ (x : Next). stationsFrom 0 n (p + 1 + length i) (m + 1) x 0 (fieldsOf is ++ t) .next)
       (not-this p m (fieldOf i) l (λ c. let z : m + 1 ≡ 1 = h (m + 1) (omega arith) (omega arith) c in omega arith))

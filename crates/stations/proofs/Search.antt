@@ -1,7 +1,6 @@
--- The next station matches by its place and by its number: either finds what the other found.
--- Assumes nothing.
+-- The next station looked for by its index and by its number: either finds what the other found. Assumes nothing.
 use mathlib.Core.Path.{_≡_, refl, ap}
-use mathlib.Core.Bool.{Bool, true, false, cond, _||_}
+use mathlib.Core.Bool.{Bool, true, false, cond}
 use mathlib.Core.List.{List, [], _∷_}
 use Prim.Native.Nat.{ℕ, zero, suc, _+_, _-_, _≤_, _<_}
 use native.Mathlib.Omega.{arith}
@@ -13,10 +12,11 @@ use Rattle.ids.specs.Id.{validId}
 use Rattle.stations.specs.Fields.{noNext, malformed, matches, nextAfter, closedAt, onLength, stationsFrom, stationsOf}
 use Rattle.stations.specs.declared.Next.{Next}
 use Rattle.stations.specs.declared.Stations.{Stations}
+use Rattle.common.proofs.Equations.{or-left, or-right, or-none}
 use Rattle.stations.proofs.Offset.{Found}
 use Rattle.stations.proofs.Extent.{on-length-ind, on-length-ind₂}
 
--- the next station of a closedAt stationsFrom
+-- the next station where the fields are closed
 closed-ind : (P : Next → Type 0) (p m : ℕ) (x : Next) → P x → P noNext → P (closedAt p m x .next)
 unfolding closedAt
 closed-ind P p m x h z = by (eqb m 0)
@@ -56,7 +56,7 @@ stations-from-same w n w′ n′ p m x zero (a ∷ s) h =
     ap (onLength (eqb a 0) (validId (take a s)) (closedAt p m x))
     (rw (next-after-found w n p (m + 1) (a ∷ take a s) x h, next-after-found w′ n′ p (m + 1) (a ∷ take a s) x h) (stations-from-same w n w′ n′ (p + 1) (m + 1) x a s h))
 
--- ---- the three ways that an ID is nextAfter while nothing is found
+-- ---- the three ways that an ID is passed while nothing is found
 abbrev pub here : (p m : ℕ) → List ℕ → Next
 here p m f = record { number = m; index = p; sum = nextStationSum f }
 
@@ -88,7 +88,7 @@ next-after-ind P w n p m f source found other = by (eqb m 1) (matches w n p m) r
 some : (m : ℕ) → m + 1 ≡ 0 → ⊥
 some m h = omega arith
 
--- ---- what is found later has a later place and a higher number
+-- ---- what is found later has a higher index and a higher number
 abbrev Later : (p m : ℕ) → Stations → Type 0
 Later p m r = Found (r .next) → (p ≤ r .next .index) × (m < r .next .number)
 
@@ -143,18 +143,8 @@ module _ (w n w′ n′ : ℕ) where
       (λ f g. refl)
       f₀ g₀
 
-or-left : (a b : Bool) → a ≡ true → (a || b) ≡ true
-or-left a b h = rw h
-
-pub or-right : (a b : Bool) → b ≡ true → (a || b) ≡ true
-or-right true b h = refl
-or-right false b h = h
-
-pub or-none : (a b : Bool) → a ≡ false → b ≡ false → (a || b) ≡ false
-or-none a b h i = rw (h, i)
-
 module _ (w n : ℕ) (s : List ℕ) (f : Found (stationsOf w n s .next)) where
-  -- matches by the number that was found
+  -- looked for by the number that was found
   pub by-number : stationsOf 0 (stationsOf w n s .next .number) s ≡ stationsOf w n s
   unfolding stationsOf
   by-number =
@@ -164,7 +154,7 @@ module _ (w n : ℕ) (s : List ℕ) (f : Found (stationsOf w n s .next)) where
         λ p m hp hm lp lm. or-none (eqb p 0) (eqb m (y .number)) (ne-eqb p 0 (λ e. omega arith)) (ne-eqb m (y .number) (λ e. omega arith)),
       )
 
-  -- matches by the place that was found
+  -- looked for by the index that was found
   pub by-index : stationsOf (stationsOf w n s .next .index) 0 s ≡ stationsOf w n s
   unfolding stationsOf
   by-index =

@@ -1,5 +1,4 @@
--- Laws of options at a place of a list, for the loop of valid_options, and of the supplementary header around them.
--- Assumes nothing.
+-- Laws of options at a place of a list, for the loop of valid_options, and of the supplementary header around them. Assumes nothing.
 use mathlib.Core.Path.{_≡_, refl, sym, ap, _∙_}
 use mathlib.Core.Bool.{Bool, true, false, _&&_}
 use mathlib.Core.List.{List, [], _∷_}
@@ -11,6 +10,7 @@ use borrow.Author.Tests.{le-leb, lt-leb, eq-eqb, ne-eqb, eqb-true}
 use lib.Dec.{leb, eqb}
 use lib.ListN.{length, getD, take, drop, drop-of-length-le, length-drop}
 use lib.Seq.{drop-cons, drop-drop, take-all}
+use Rattle.common.proofs.Equations.{and-both}
 use Rattle.supplementary.specs.Options.{callsignsAfter, validOptions, validSupplementary, supplementaryOctets, supplementaryIn}
 
 -- octets of a value passed at once
@@ -89,11 +89,7 @@ module _ (s t : List ℕ) (n : ℕ) (h : length s ≡ 0 → ⊥) (ne : n ≡ get
 pub octets-in : (s : List ℕ) → validSupplementary s ≡ true → supplementaryOctets (supplementaryIn s) ≡ s
 unfolding validSupplementary supplementaryOctets supplementaryIn
 octets-in [] g = refl
-octets-in (l ∷ s) g = ap (λ (l : ℕ). l ∷ s) (sym (eqb-true l (length s) (left (eqb l (length s)) (validOptions 0 0 s) g)))
-  where
-    left : (a b : Bool) → (a && b) ≡ true → a ≡ true
-    left true b h = refl
-    left false b h = h
+octets-in (l ∷ s) g = ap (λ (l : ℕ). l ∷ s) (sym (eqb-true l (length s) (and-both (eqb l (length s)) (validOptions 0 0 s) g .0)))
 
 pub in-octets : (o : Option (List ℕ)) → supplementaryIn (supplementaryOctets o) ≡ o
 unfolding supplementaryOctets supplementaryIn
