@@ -1,6 +1,6 @@
 -- Parts and meanings: a frame that means something passed every test, and its parts and its meaning determine each other. Assumes nothing.
 use mathlib.Core.Path.{_≡_, refl, sym, ap, ap₂, _∙_}
-use mathlib.Core.Bool.{Bool}
+use mathlib.Core.Bool.{Bool, true}
 use mathlib.Core.List.{List}
 use Prim.Native.Nat.{ℕ}
 use lib.Dec.{eqb}
@@ -10,8 +10,9 @@ use Rattle.common.proofs.Buffer.{take-withFront}
 use Rattle.common.proofs.Refusals.{Passed, guarded-done}
 use Rattle.common.proofs.FirstRefusal.{number-passed}
 use Rattle.sums.specs.Sum.{notCalculated}
-use Rattle.stations.proofs.IdList.{fields-ids}
-use Rattle.supplementary.proofs.Options.{octets-in}
+use Rattle.stations.specs.IdList.{allValid}
+use Rattle.stations.proofs.IdList.{fields-ids, ids-fields}
+use Rattle.supplementary.proofs.Options.{octets-in, in-octets}
 use Rattle.afp.specs.Layout.{receivedSum}
 use Rattle.afp.specs.Reading.{envelopeRefusals, fixedRefusals, stationRefusals, restRefusals, refusals}
 use Rattle.afp.specs.Meaning.{Meaning, Verdict, refused, means, meant, meaning}
@@ -52,6 +53,14 @@ module _ (f : List ℕ) where
     unchecked-is = let i = same in cc
 
 -- ---- parts
+-- a meaning whose IDs keep the rule comes back from its parts
+pub meaning-parts : (m : Meaning) → allValid (m .ids) ≡ true → meaningOf (partsOf m) ≡ m
+unfolding meaningOf partsOf
+meaning-parts m g =
+    let a = ids-fields (m .ids) g in
+    let b = in-octets (m .supplementary) in
+    λ i. record { protocol = m .protocol; ids = a i; next = m .next; supplementary = b i; payload = m .payload }
+
 module _ (m : Parts) where
   pub parts-meaning : (room : ℕ) → Passed (encodeRefusals m room) → partsOf (meaningOf m) ≡ m
   unfolding encodeRefusals meaningOf partsOf

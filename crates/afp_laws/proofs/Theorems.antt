@@ -9,7 +9,7 @@
 --   read-written        what a frame means can be written, and reads as the same meaning
 --   read-written-again  a frame that was checked comes back octet for octet
 --   frame-covered       a frame's length, and header, data and two check octets with nothing between
---   changed-octet-31    one changed octet is refused by 31
+--   changed-octet-31    one changed octet is refused by 31; written-changed says it of what was written
 use mathlib.Core.Path.{_≡_, sym, ap, ap₂, _∙_}
 use mathlib.Core.Bool.{Bool, false}
 use mathlib.Core.List.{List, _++_, append-assoc}
@@ -30,7 +30,7 @@ use Rattle.afp_write.specs.declared.Written.{Written}
 use Rattle.afp_laws.specs.Parts.{Parts, encode, encodeRefusals, answer, sent, partsIn, meaningOf, partsOf}
 use Rattle.afp_laws.proofs.Written.{encode-passes, encode-checked, encode-parts}
 use Rattle.afp_laws.proofs.Accepted.{long-enough, short-enough, check-right, offset-low, offset-high, offset-in, length-d, payload-short, parts-pass, frame-again}
-use Rattle.afp_laws.proofs.Meanings.{passed-meaning, meaning-passed, meaning-is, unchecked-is, parts-meaning, answer-passed, answer-is, sent-is}
+use Rattle.afp_laws.proofs.Meanings.{passed-meaning, meaning-passed, meaning-is, unchecked-is, meaning-parts, parts-meaning, answer-passed, answer-is, sent-is}
 use Rattle.afp_laws.proofs.Writable.{proper-writable}
 use Rattle.afp_laws.proofs.ReadProper.{parts-proper}
 use Rattle.afp_laws.proofs.Changed.{changed-refused}
@@ -52,11 +52,11 @@ written-read m out e =
 
 -- every meaning that keeps the paper's rules is written, and read back
 pub proper-written : (m : Meaning) (out : List ℕ) → Proper m → length (encode (partsOf m)) ≤ length out
-    → (answer (partsOf m) out .number ≡ 0) × (meaning (sent (partsOf m) out) ≡ means (meaningOf (partsOf m)) false)
+    → (answer (partsOf m) out .number ≡ 0) × (meaning (sent (partsOf m) out) ≡ means m false)
 proper-written m out q fits =
     let p = proper-writable m (length out) q fits in
     let e = ap (λ (w : Written). w .number) (answer-is (partsOf m) out p) in
-    (e, written-read (partsOf m) out e)
+    (e, written-read (partsOf m) out e ∙ ap (λ (m : Meaning). means m false) (meaning-parts m (q .ids-valid)))
 
 -- ---- read, then written
 module _ (f : List ℕ) (m : Meaning) (u : Bool) (e : meaning f ≡ means m u) (out : List ℕ) (fits : length f ≤ length out) where
@@ -93,14 +93,18 @@ module _ (f : List ℕ) (m : Meaning) (u : Bool) (e : meaning f ≡ means m u) w
   unfolding meaningOf partsIn
   payload-is = ap (λ (m : Meaning). m .payload) (sym (meaning-is f m u e))
 
-  pub frame-length : (shortestFrame ≤ length f) × (length f ≤ longestFrame) × (shortestHeader ≤ offset f) × (offset f ≤ longestHeader) × (length (m .payload) ≤ longestData)
+  pub frame-length : (shortestFrame ≤ length f) × (length f ≤ longestFrame)
+      × (shortestHeader ≤ offset f) × (offset f ≤ longestHeader)
+      × (length (m .payload) ≤ longestData)
   frame-length =
       let d = payload-is in
       let l = length-d f ok in
       let s = payload-short f ok in
       (long-enough f ok, short-enough f ok, offset-low f ok, offset-high f ok, rw d (omega arith))
 
-  pub frame-covered : (take (offset f) f ++ (m .payload ++ drop (checkedLength f) f) ≡ f) × (length (take (offset f) f) ≡ offset f) × (length (drop (checkedLength f) f) ≡ 2)
+  pub frame-covered : (take (offset f) f ++ (m .payload ++ drop (checkedLength f) f) ≡ f)
+      × (length (take (offset f) f) ≡ offset f)
+      × (length (drop (checkedLength f) f) ≡ 2)
   frame-covered =
       let a = long-enough f ok in
       let b = offset-in f ok in (
@@ -119,3 +123,8 @@ module _ (f : List ℕ) (m : Meaning) (u : Bool) (e : meaning f ≡ means m u) w
   changed-octet-31 o i y hi hy differs =
       changed-refused f i y o hy hi differs (long-enough f ok) (short-enough f ok) (check-right f ok) refused
       (means (meant (set f i y)) (eqb (receivedSum (set f i y)) notCalculated))
+
+-- the same of what was written
+pub written-changed : (m : Parts) (out : List ℕ) → answer m out .number ≡ 0 → Octets (sent m out)
+    → (i y : ℕ) → i < length (sent m out) → y < 256 → (octet (sent m out) i ≡ y → ⊥) → meaning (set (sent m out) i y) ≡ refused badCheck
+written-changed m out e = changed-octet-31 (sent m out) (meaningOf m) false (written-read m out e)

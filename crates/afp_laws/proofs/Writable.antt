@@ -64,14 +64,16 @@ module _ (is : List (List ℕ)) (n : ℕ) (some : 0 < length is) (g : allValid i
         by true e = refl
         by false e = let q = later (omega (arith, eqb-false (length is) 1 e)) in ne-eqb n 0 (λ z. omega arith)
 
-length-proper : (m : Meaning) → length (encode (partsOf m)) ≡ headerLength (length (fieldsOf (m .ids))) (length (supplementaryOctets (m .supplementary))) + length (m .payload) + 2
+length-proper : (m : Meaning)
+    → length (encode (partsOf m)) ≡ headerLength (length (fieldsOf (m .ids))) (length (supplementaryOctets (m .supplementary))) + length (m .payload) + 2
 unfolding encode partsOf
 length-proper m = length-frame (m .protocol) (fieldsOf (m .ids)) (m .next) (supplementaryOctets (m .supplementary)) (m .payload)
 
 pub proper-writable : (m : Meaning) (room : ℕ) → Proper m → length (encode (partsOf m)) ≤ room → Passed (encodeRefusals (partsOf m) room)
 unfolding encodeRefusals writeRefusals partRefusals sizeRefusals partsOf
 proper-writable m room q long =
-    let fits : headerLength (length (fieldsOf (m .ids))) (length (supplementaryOctets (m .supplementary))) + length (m .payload) + 2 ≤ room = rw (length-proper m) at long in
+    let fits : headerLength (length (fieldsOf (m .ids))) (length (supplementaryOctets (m .supplementary))) + length (m .payload) + 2 ≤ room
+    = rw (length-proper m) at long in
     let is = m .ids in
     let n = m .next in
     let s = fieldsOf (m .ids) in
