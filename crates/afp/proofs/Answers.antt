@@ -1,0 +1,209 @@
+-- The reader's answers from those of its private functions, and the meaning that they show. Assumes nothing.
+use mathlib.Core.Path.{_≡_, sym, ap, ap₂, _∙_}
+use mathlib.Core.Bool.{Bool, false, cond}
+use mathlib.Core.List.{List, _++_}
+use Prim.Native.Nat.{ℕ, _+_, _-_, _≤_, _<_}
+use native.Mathlib.Omega.{arith}
+use borrow.Author.Tests.{ltb-false, ne-eqb}
+use lib.Dec.{eqb}
+use lib.ListN.{length, take, drop, length-take, length-drop}
+use lib.Seq.{length-take-le, take-take}
+use Rattle.common.specs.Refusals.{guarded}
+use Rattle.common.specs.FirstRefusal.{firstRefusal}
+use Rattle.common.proofs.Refusals.{guarded-done}
+use Rattle.common.proofs.FirstRefusal.{first-passed, guarded-++, guarded-first, guarded-map}
+use Rattle.common.proofs.Parts.{drop-take}
+use Rattle.sums.specs.Sum.{notCalculated}
+use Rattle.stations.specs.declared.Stations.{Stations}
+use Rattle.stations.specs.Fields.{fieldsAt, stationsOf}
+use Rattle.stations.specs.IdList.{idsOf}
+use Rattle.stations.proofs.Extent.{stations-within}
+use Rattle.supplementary.specs.Options.{supplementaryIn}
+use Rattle.afp.specs.Numbers.{shortestFrame, shortestHeader, longestHeader}
+use Rattle.afp.specs.Layout.{octet, offset, checkedLength, checkedPart, variablePart, stationsIn, receivedSum, dataLength}
+use Rattle.afp.specs.Reading.{envelopeRefusals, fixedRefusals, stationRefusals, restRefusals, refusals, refusedReading, acceptedReading, readOf}
+use Rattle.afp.specs.Meaning.{Meaning, refused, means, meant, meaning, shown, verdict}
+use Rattle.afp.specs.declared.Reading.{Reading}
+use Rattle.afp.proofs.Refusals.{variable-rest}
+
+-- ---- what passed tests say of the frame's length and offset
+pub envelope-fits : (f : List ℕ) → 0 ≡ firstRefusal (envelopeRefusals f) → shortestFrame ≤ length f
+unfolding envelopeRefusals
+envelope-fits f e = let p = first-passed (envelopeRefusals f) tt (sym e) in ltb-false (length f) shortestFrame (p .0)
+
+pub fixed-fits : (f : List ℕ) → shortestFrame ≤ length f → 0 ≡ firstRefusal (fixedRefusals f) → (shortestHeader ≤ offset f) × (offset f ≤ longestHeader) × (offset f + 2 ≤ length f)
+unfolding fixedRefusals
+fixed-fits f n e =
+    let p = first-passed (fixedRefusals f) tt (sym e) in
+    let a : shortestHeader ≤ offset f = ltb-false (offset f) shortestHeader (p .1 .1 .0) in
+    let b : offset f ≤ longestHeader = ltb-false longestHeader (offset f) (p .1 .1 .1 .0) in
+    let c : offset f ≤ checkedLength f = ltb-false (checkedLength f) (offset f) (p .1 .1 .1 .1 .0) in
+    (a, b, omega arith)
+
+-- ---- the station fields of a frame
+pub length-variable : (f : List ℕ) → shortestHeader ≤ offset f → offset f + 2 ≤ length f → length (variablePart f) ≡ offset f - 6
+unfolding variablePart
+length-variable f a b = length-take-le (offset f - 6) (drop fieldsAt f) (rw (length-drop fieldsAt f) (omega arith))
+
+pub stations-bound : (f : List ℕ) → shortestHeader ≤ offset f → offset f + 2 ≤ length f → stationsIn f .end + 6 ≤ offset f
+unfolding stationsIn
+stations-bound f a b =
+    let w = stations-within (octet f 4 - fieldsAt) 0 (variablePart f) in
+    let l : length (variablePart f) ≡ offset f - 6 = length-variable f a b in
+    omega arith
+
+module _ (f : List ℕ) (o t : ℕ) (oe : o ≡ offset f) (te : t ≡ octet f 4) where
+  variable-is : take (o - 1 - fieldsAt) (drop fieldsAt f) ≡ variablePart f
+  unfolding variablePart
+  variable-is = let z : o - 1 - fieldsAt ≡ offset f - 6 = omega arith in ap (λ (k : ℕ). take k (drop fieldsAt f)) z
+
+  pub stations-low : t < fieldsAt → stationsOf 0 0 (take (o - 1 - fieldsAt) (drop fieldsAt f)) ≡ stationsIn f
+  unfolding stationsIn
+  stations-low h = let z : 0 ≡ octet f 4 - fieldsAt = omega arith in ap₂ (λ (w : ℕ) (m : List ℕ). stationsOf w 0 m) z variable-is
+
+  pub stations-high : stationsOf (t - fieldsAt) 0 (take (o - 1 - fieldsAt) (drop fieldsAt f)) ≡ stationsIn f
+  unfolding stationsIn
+  stations-high = ap₂ (λ (w : ℕ) (m : List ℕ). stationsOf (w - fieldsAt) 0 m) te variable-is
+
+-- ---- the answer is refused by the first list in which a refusal applies
+module _ {A : Type 0} (refuse : ℕ → A) (done : A) (f : List ℕ) where
+  abbrev third : A
+  third = guarded (stationRefusals f (stationsIn f) ++ restRefusals f (stationsIn f .end)) refuse done
+
+  abbrev second : A
+  second = guarded (fixedRefusals f ++ (stationRefusals f (stationsIn f) ++ restRefusals f (stationsIn f .end))) refuse done
+
+  split₁ : guarded (refusals f) refuse done ≡ guarded (envelopeRefusals f) refuse second
+  unfolding refusals
+  split₁ =
+      cc (guarded-++ refuse done (envelopeRefusals f) (fixedRefusals f ++ (stationRefusals f (stationsIn f) ++ restRefusals f (stationsIn f .end))))
+
+  split₂ : second ≡ guarded (fixedRefusals f) refuse third
+  split₂ = guarded-++ refuse done (fixedRefusals f) (stationRefusals f (stationsIn f) ++ restRefusals f (stationsIn f .end))
+
+  split₃ : third ≡ guarded (stationRefusals f (stationsIn f)) refuse (guarded (restRefusals f (stationsIn f .end)) refuse done)
+  split₃ = guarded-++ refuse done (stationRefusals f (stationsIn f)) (restRefusals f (stationsIn f .end))
+
+  pub refused-envelope : (n : ℕ) → n ≡ firstRefusal (envelopeRefusals f) → (n ≡ 0 → ⊥) → guarded (refusals f) refuse done ≡ refuse n
+  refused-envelope n e z = split₁ ∙ guarded-first refuse second (envelopeRefusals f) n e z
+
+  module _ (a : 0 ≡ firstRefusal (envelopeRefusals f)) where
+    past₁ : guarded (refusals f) refuse done ≡ second
+    unfolding envelopeRefusals
+    past₁ = split₁ ∙ guarded-done refuse second (envelopeRefusals f) (first-passed (envelopeRefusals f) tt (sym a))
+
+    pub refused-fixed : (n : ℕ) → n ≡ firstRefusal (fixedRefusals f) → (n ≡ 0 → ⊥) → guarded (refusals f) refuse done ≡ refuse n
+    refused-fixed n e z = past₁ ∙ split₂ ∙ guarded-first refuse third (fixedRefusals f) n e z
+
+    module _ (b : 0 ≡ firstRefusal (fixedRefusals f)) where
+      past₂ : guarded (refusals f) refuse done ≡ third
+      unfolding fixedRefusals
+      past₂ = past₁ ∙ split₂ ∙ guarded-done refuse third (fixedRefusals f) (first-passed (fixedRefusals f) tt (sym b))
+
+      pub refused-station : (n : ℕ) → n ≡ firstRefusal (stationRefusals f (stationsIn f)) → (n ≡ 0 → ⊥) → guarded (refusals f) refuse done ≡ refuse n
+      refused-station n e z =
+          past₂ ∙ split₃ ∙ guarded-first refuse (guarded (restRefusals f (stationsIn f .end)) refuse done) (stationRefusals f (stationsIn f)) n e z
+
+      module _ (c : 0 ≡ firstRefusal (stationRefusals f (stationsIn f))) where
+        past₃ : guarded (refusals f) refuse done ≡ guarded (restRefusals f (stationsIn f .end)) refuse done
+        unfolding stationRefusals
+        past₃ =
+            past₂ ∙ split₃
+            ∙ guarded-done refuse (guarded (restRefusals f (stationsIn f .end)) refuse done) (stationRefusals f (stationsIn f)) (first-passed (stationRefusals f (stationsIn f)) tt (sym c))
+
+        pub refused-rest : (n : ℕ) → n ≡ firstRefusal (restRefusals f (stationsIn f .end)) → (n ≡ 0 → ⊥) → guarded (refusals f) refuse done ≡ refuse n
+        refused-rest n e z = past₃ ∙ guarded-first refuse done (restRefusals f (stationsIn f .end)) n e z
+
+        pub not-refused : 0 ≡ firstRefusal (restRefusals f (stationsIn f .end)) → guarded (refusals f) refuse done ≡ done
+        unfolding restRefusals
+        not-refused d = past₃ ∙ guarded-done refuse done (restRefusals f (stationsIn f .end)) (first-passed (restRefusals f (stationsIn f .end)) tt (sym d))
+
+-- ---- the answer shows the meaning
+module _ (f : List ℕ) where
+  end-bound : stationsIn f .end ≤ offset f - 6
+  unfolding stationsIn variablePart
+  end-bound =
+      let w = stations-within (octet f 4 - fieldsAt) 0 (take (offset f - 6) (drop fieldsAt f)) in
+      omega (arith, length-take (offset f - 6) (drop fieldsAt f))
+
+  fields-shown : take (stationsIn f .end) (drop fieldsAt f) ≡ take (stationsIn f .end) (variablePart f)
+  unfolding variablePart
+  fields-shown = sym (take-take (stationsIn f .end) (offset f - 6) (drop fieldsAt f) end-bound)
+
+  payload-shown : take (dataLength f) (drop (offset f) f) ≡ drop (offset f) (checkedPart f)
+  payload-shown = sym (drop-take (offset f) (checkedLength f) f)
+
+  accepted-shown : shown (acceptedReading f (stationsIn f)) f ≡ meant f
+  unfolding shown acceptedReading meant
+  accepted-shown =
+      let a = ap idsOf fields-shown in
+      let b = ap supplementaryIn (variable-rest f (stationsIn f .end)) in
+      let c = payload-shown in
+      λ i. record { protocol = octet f 2; ids = a i; next = stationsIn f .next .number; supplementary = b i; payload = c i }
+
+  refused-shown : (n : ℕ) → (n ≡ 0 → ⊥) → verdict (refusedReading n) f ≡ refused n
+  unfolding verdict
+  refused-shown n h = ap (λ (b : Bool). cond b (means (shown (refusedReading n) f) false) (refused n)) (ne-eqb n 0 h)
+
+  accepted-verdict : verdict (acceptedReading f (stationsIn f)) f ≡ means (meant f) (eqb (receivedSum f) notCalculated)
+  unfolding verdict acceptedReading
+  accepted-verdict = ap (λ (m : Meaning). means m (eqb (receivedSum f) notCalculated)) accepted-shown
+
+  pub read-meaning : verdict (readOf f) f ≡ meaning f
+  unfolding readOf meaning refusals envelopeRefusals fixedRefusals stationRefusals restRefusals
+  read-meaning =
+      guarded-map (λ r. verdict r f) refusedReading refused (acceptedReading f (stationsIn f)) refused-shown (refusals f) tt
+      ∙ ap (guarded (refusals f) refused) accepted-verdict
+
+  -- both promises of the reader from the first
+  pub read-both : (r : Reading) → r ≡ readOf f → (r ≡ readOf f) × (verdict r f ≡ meaning f)
+  read-both r e = (e, ap (λ (r : Reading). verdict r f) e ∙ read-meaning)
+
+-- ---- the answers of `read`, from those of the functions that it calls
+module _ (f : List ℕ) (a : ℕ) (ae : a ≡ firstRefusal (envelopeRefusals f)) where
+  pub read-envelope : (v : Reading) → v ≡ refusedReading a → (a ≡ 0 → ⊥) → (v ≡ readOf f) × (verdict v f ≡ meaning f)
+  unfolding readOf
+  read-envelope v e z = read-both f v (e ∙ sym (refused-envelope refusedReading (acceptedReading f (stationsIn f)) f a ae z))
+
+  pub frame-fits : a ≡ 0 → shortestFrame ≤ length f
+  frame-fits az = envelope-fits f (sym az ∙ ae)
+
+  module _ (az : a ≡ 0) (b : ℕ) (be : b ≡ firstRefusal (fixedRefusals f)) where
+    pub read-fixed : (v : Reading) → v ≡ refusedReading b → (b ≡ 0 → ⊥) → (v ≡ readOf f) × (verdict v f ≡ meaning f)
+    unfolding readOf
+    read-fixed v e z = read-both f v (e ∙ sym (refused-fixed refusedReading (acceptedReading f (stationsIn f)) f (sym az ∙ ae) b be z))
+
+    module _ (bz : b ≡ 0) where
+      pub offset-fits : (shortestHeader ≤ offset f) × (offset f + 2 ≤ length f)
+      offset-fits = let p = fixed-fits f (frame-fits az) (sym bz ∙ be) in (p .0, p .2)
+
+      module _ (r : Stations) (re : r ≡ stationsIn f) (c : ℕ) (ce : c ≡ firstRefusal (stationRefusals f r)) where
+        c-is : c ≡ firstRefusal (stationRefusals f (stationsIn f))
+        c-is = ce ∙ ap (λ (r : Stations). firstRefusal (stationRefusals f r)) re
+
+        pub end-fits : (offset f + 2 ≤ length f) × (r .end + 6 ≤ offset f)
+        end-fits =
+            let p = offset-fits in
+            (p .1, rw re (stations-bound f (p .0) (p .1)))
+
+        pub read-station : (v : Reading) → v ≡ refusedReading c → (c ≡ 0 → ⊥) → (v ≡ readOf f) × (verdict v f ≡ meaning f)
+        unfolding readOf
+        read-station v e z =
+            read-both f v (e ∙ sym (refused-station refusedReading (acceptedReading f (stationsIn f)) f (sym az ∙ ae) (sym bz ∙ be) c c-is z))
+
+        module _ (cz : c ≡ 0) (d : ℕ) (de : d ≡ firstRefusal (restRefusals f (r .end))) where
+          d-is : d ≡ firstRefusal (restRefusals f (stationsIn f .end))
+          d-is = de ∙ ap (λ (r : Stations). firstRefusal (restRefusals f (r .end))) re
+
+          pub read-rest : (v : Reading) → v ≡ refusedReading d → (d ≡ 0 → ⊥) → (v ≡ readOf f) × (verdict v f ≡ meaning f)
+          unfolding readOf
+          read-rest v e z =
+              read-both f v
+              (e ∙ sym (refused-rest refusedReading (acceptedReading f (stationsIn f)) f (sym az ∙ ae) (sym bz ∙ be) (sym cz ∙ c-is) d d-is z))
+
+          pub read-accepted : (v : Reading) → v ≡ acceptedReading f r → d ≡ 0 → (v ≡ readOf f) × (verdict v f ≡ meaning f)
+          unfolding readOf
+          read-accepted v e z =
+              read-both f v
+              (e ∙ ap (acceptedReading f) re
+              ∙ sym (not-refused refusedReading (acceptedReading f (stationsIn f)) f (sym az ∙ ae) (sym bz ∙ be) (sym cz ∙ c-is) (sym z ∙ d-is)))

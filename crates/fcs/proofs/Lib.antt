@@ -1,0 +1,6 @@
+pub mod Xor
+pub mod Linear
+pub mod Register
+pub mod Words
+pub mod Residue
+pub mod Worked

@@ -1,0 +1,2 @@
+pub mod Fcs
+pub mod Words
