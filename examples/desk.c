@@ -88,9 +88,77 @@ static void check_cases(void)
     }
 }
 
+static void sum_cases(void)
+{
+    /* worked on paper: FB; and sums that are FF and 0 */
+    static const uint8_t worked[] = {0x04, 0x41, 0x42, 0x31, 0x43}, ones[] = {0xF0, 0x0F}, none[] = {0x00};
+    printf("sums 04 41 42 31 43: %02X, %02X, %02X\n", hasfandur_afp_sum(worked, 5), hasfandur_afp_next_station_sum(worked, 5),
+           hasfandur_afp_header_sum(worked, 5));
+    printf("sums F0 0F: %02X, %02X, %02X\n", hasfandur_afp_sum(ones, 2), hasfandur_afp_next_station_sum(ones, 2),
+           hasfandur_afp_header_sum(ones, 2));
+    printf("sums 00: %02X, %02X, %02X\n", hasfandur_afp_sum(none, 1), hasfandur_afp_next_station_sum(none, 1),
+           hasfandur_afp_header_sum(none, 1));
+    printf("check sequence of 123456789: %04X\n", (unsigned)hasfandur_check_sequence((const uint8_t *)"123456789", 9));
+}
+
+/* What an answer shows of a frame. */
+static void print_reading(const char *name, const uint8_t *frame, hasfandur_reading r)
+{
+    printf("%s: %u", name, (unsigned)r.number);
+    if (r.number == HASFANDUR_DONE) {
+        printf(", protocol %02X, %zu IDs, next %zu, stations", r.protocol, r.ids, r.next);
+        print_octets(frame + r.stations.place, r.stations.size);
+        printf(", supplementary");
+        print_octets(frame + r.supplementary.place, r.supplementary.size);
+        printf(", data");
+        print_octets(frame + r.payload.place, r.payload.size);
+        printf("%s", r.unchecked ? ", unchecked" : "");
+    }
+    printf("\n");
+}
+
+/* Writes a frame into `room` octets, prints it, and reads it again. */
+static void afp_case(const char *name, uint8_t protocol, const char *stations, size_t stations_length, size_t next,
+                     const char *supplementary, size_t supplementary_length, const char *data, size_t room)
+{
+    uint8_t out[64];
+    memset(out, UNTOUCHED, sizeof out);
+    hasfandur_afp_written w =
+        hasfandur_afp_write(protocol, (const uint8_t *)stations, stations_length, next, (const uint8_t *)supplementary,
+                            supplementary_length, (const uint8_t *)data, strlen(data), out, room);
+    printf("%s: %u, %zu octets", name, (unsigned)w.number, w.length);
+    if (w.length != 0) {
+        printf(":");
+        print_octets(out, w.length);
+    }
+    printf(", the rest %s\n", untouched(out, w.length, sizeof out) ? "as before" : "CHANGED");
+    if (w.number == HASFANDUR_DONE) {
+        print_reading("  read", out, hasfandur_afp_read(out, w.length));
+        out[2] ^= 0x01;
+        print_reading("  read with one bit changed", out, hasfandur_afp_read(out, w.length));
+    }
+}
+
+static void afp_cases(void)
+{
+    /* worked on paper: a broadcast by AB1C, protocol F0 */
+    afp_case("afp broadcast", 0xF0, "\004AB1C", 6, 0, "", 0, "", 64);
+    afp_case("afp to the second ID", 0xF0, "\004AB1C\003X/9", 10, 2, "\000", 1, "hi", 64);
+    afp_case("afp without room", 0xF0, "\004AB1C", 6, 0, "", 0, "", 13);
+    afp_case("afp protocol FE", 0xFE, "\004ab1c", 6, 0, "", 0, "", 64);
+    afp_case("afp lower case", 0xF0, "\004ab1c", 6, 1, "", 0, "", 64);
+    afp_case("afp next 1", 0xF0, "\004AB1C", 6, 1, "\002", 1, "", 64);
+    afp_case("afp options missing", 0xF0, "\001A", 3, 0, "\002", 1, "", 64);
+    afp_case("afp short header", 0xF0, "\001A", 3, 0, "", 0, "", 0);
+    static const uint8_t nothing[1] = {0};
+    print_reading("afp no frame", nothing, hasfandur_afp_read(nothing, 0));
+}
+
 int main(void)
 {
     write_cases();
     check_cases();
+    sum_cases();
+    afp_cases();
     return 0;
 }

@@ -26,13 +26,31 @@ enum hasfandur_number {
     HASFANDUR_DATA_TOO_LONG = 2,
     HASFANDUR_OUT_TOO_SMALL = 3,
     /* QAFT writer and reader */
-    HASFANDUR_BAD_LEVEL = 6
+    HASFANDUR_BAD_LEVEL = 6,
+    /* AFP reader, in this order; the writer gives 33, 35, 36, 38, 34, 40, 41 */
+    HASFANDUR_AFP_BAD_LENGTH = 30,
+    HASFANDUR_AFP_BAD_CHECK = 31,
+    HASFANDUR_AFP_BAD_VERSION = 32,
+    HASFANDUR_AFP_BAD_PROTOCOL = 33,
+    HASFANDUR_AFP_BAD_OFFSET = 34,
+    HASFANDUR_AFP_BAD_STATIONS = 35,
+    HASFANDUR_AFP_BAD_NEXT = 36,
+    HASFANDUR_AFP_BAD_NEXT_SUM = 37,
+    HASFANDUR_AFP_BAD_SUPPLEMENTARY = 38,
+    HASFANDUR_AFP_BAD_HEADER_SUM = 39,
+    HASFANDUR_AFP_BAD_DATA = 40,
+    HASFANDUR_AFP_OUT_TOO_SMALL = 41
 };
 
 /* A QAFT frame has 1 to this many data octets. */
 #define HASFANDUR_QAFT_MAX_DATA 2560
 /* An out buffer of this size has room for every frame. */
 #define HASFANDUR_QAFT_MAX_FRAME 5124
+
+/* An AFP frame has 14 to this many octets, of them up to 2,304 data octets and a header of 12 to 254. */
+#define HASFANDUR_AFP_MAX_FRAME 2560
+#define HASFANDUR_AFP_MAX_DATA 2304
+#define HASFANDUR_AFP_MAX_HEADER 254
 
 /* A writer's answer: a number, and how many octets stand at the front of the out buffer (0 on a refusal). */
 typedef struct hasfandur_written {
@@ -56,6 +74,65 @@ uint8_t hasfandur_qaft_check(const uint8_t *octets, size_t length);
  */
 hasfandur_written hasfandur_qaft_write(uint8_t level, bool at_flag, const uint8_t *data, size_t data_length, uint8_t *out,
                                        size_t out_length);
+
+/*
+ * AFP's sum of octets: eight bits with end-around carry, from 0. And the two forms in which a header holds sums: of the
+ * next station's field, length octet included (FF is written as 0), and of the header octets before it (0 as FF).
+ */
+uint8_t hasfandur_afp_sum(const uint8_t *octets, size_t length);
+uint8_t hasfandur_afp_next_station_sum(const uint8_t *field, size_t length);
+uint8_t hasfandur_afp_header_sum(const uint8_t *octets, size_t length);
+
+/*
+ * The check sequence of ISO 3309, as AFP uses it: preset ones, complemented. The low octet of the value goes on the line
+ * first. "123456789": 906E.
+ */
+uint16_t hasfandur_check_sequence(const uint8_t *octets, size_t length);
+
+/* A part of an AFP frame: where it begins, and how many octets it has. */
+typedef struct hasfandur_part {
+    size_t place;
+    size_t size;
+} hasfandur_part;
+
+/*
+ * What stands where in an AFP frame. On a refusal every field but the number is 0.
+ * stations: the station fields with their closing 0; ids: how many IDs; next: the next ID's number, the source being 1,
+ * 0 for a broadcast; supplementary: with its length octet, size 0 where it is absent and 1 where it is present and empty;
+ * payload: the data; unchecked: the header sum was 0, "not calculated".
+ */
+typedef struct hasfandur_reading {
+    uint8_t number;
+    uint8_t protocol;
+    hasfandur_part stations;
+    size_t ids;
+    size_t next;
+    hasfandur_part supplementary;
+    hasfandur_part payload;
+    bool unchecked;
+} hasfandur_reading;
+
+/*
+ * Reads an AFP frame. Refusals in rising order: HASFANDUR_AFP_BAD_LENGTH (30) to HASFANDUR_AFP_BAD_DATA (40). Otherwise
+ * HASFANDUR_DONE, and every part lies within the frame.
+ */
+hasfandur_reading hasfandur_afp_read(const uint8_t *frame, size_t length);
+
+/* The AFP writer's answer: a number, and how many octets stand at the front of the out buffer (0 on a refusal). */
+typedef hasfandur_written hasfandur_afp_written;
+
+/*
+ * Writes an AFP frame to the front of `out`: station fields as in a frame, with their closing 0; `next` the next ID's number,
+ * the source being 1, or 0 for a broadcast; the supplementary header with its length octet, no octets for none; data. The
+ * sums and the check sequence are calculated.
+ *
+ * Refusals, the first that applies: HASFANDUR_AFP_BAD_PROTOCOL (FE or FF), _BAD_STATIONS, _BAD_NEXT, _BAD_SUPPLEMENTARY,
+ * _BAD_OFFSET (the header would not have 12 to 254 octets), _BAD_DATA, _OUT_TOO_SMALL (by the length of this very frame).
+ * A refusal writes nothing; octets of `out` behind the frame are as before.
+ */
+hasfandur_afp_written hasfandur_afp_write(uint8_t protocol, const uint8_t *stations, size_t stations_length, size_t next,
+                                          const uint8_t *supplementary, size_t supplementary_length, const uint8_t *data,
+                                          size_t data_length, uint8_t *out, size_t out_length);
 
 #ifdef __cplusplus
 }

@@ -1,30 +1,30 @@
 -- The reader's answers from those of its private functions, and the meaning that they show. Assumes nothing.
-use mathlib.Core.Path.{_≡_, sym, ap, ap₂, _∙_}
+use Prim.Native.Nat.{ℕ, _+_, _-_, _≤_, _<_}
 use mathlib.Core.Bool.{Bool, false, cond}
 use mathlib.Core.List.{List, _++_}
-use Prim.Native.Nat.{ℕ, _+_, _-_, _≤_, _<_}
+use mathlib.Core.Path.{_≡_, sym, ap, ap₂, _∙_}
 use native.Mathlib.Omega.{arith}
 use borrow.Author.Tests.{ltb-false, ne-eqb}
 use lib.Dec.{eqb}
 use lib.ListN.{length, take, drop, length-take, length-drop}
 use lib.Seq.{length-take-le, take-take}
-use Rattle.common.specs.Refusals.{guarded}
-use Rattle.common.specs.FirstRefusal.{firstRefusal}
-use Rattle.common.proofs.Refusals.{guarded-done}
-use Rattle.common.proofs.FirstRefusal.{first-passed, guarded-++, guarded-first, guarded-map}
+use Rattle.afp.proofs.Refusals.{variable-rest}
+use Rattle.afp.specs.Layout.{octet, offset, checkedLength, checkedPart, variablePart, stationsIn, receivedSum, dataLength}
+use Rattle.afp.specs.Meaning.{Meaning, refused, means, meant, meaning, shown, verdict}
+use Rattle.afp.specs.Numbers.{shortestFrame, shortestHeader, longestHeader}
+use Rattle.afp.specs.Reading.{envelopeRefusals, fixedRefusals, stationRefusals, restRefusals, refusals, refusedReading, acceptedReading, readOf}
+use Rattle.afp.specs.declared.Reading.{Reading}
+use Rattle.common.proofs.FirstRefusal.{first-passed, guarded-++, guarded-first, guarded-map-numbered}
 use Rattle.common.proofs.Parts.{drop-take}
-use Rattle.sums.specs.Sum.{notCalculated}
-use Rattle.stations.specs.declared.Stations.{Stations}
+use Rattle.common.proofs.Refusals.{guarded-done}
+use Rattle.common.specs.FirstRefusal.{firstRefusal}
+use Rattle.common.specs.Refusals.{guarded}
+use Rattle.stations.proofs.Extent.{stations-within}
 use Rattle.stations.specs.Fields.{fieldsAt, stationsOf}
 use Rattle.stations.specs.IdList.{idsOf}
-use Rattle.stations.proofs.Extent.{stations-within}
+use Rattle.stations.specs.declared.Stations.{Stations}
+use Rattle.sums.specs.Sum.{notCalculated}
 use Rattle.supplementary.specs.Options.{supplementaryIn}
-use Rattle.afp.specs.Numbers.{shortestFrame, shortestHeader, longestHeader}
-use Rattle.afp.specs.Layout.{octet, offset, checkedLength, checkedPart, variablePart, stationsIn, receivedSum, dataLength}
-use Rattle.afp.specs.Reading.{envelopeRefusals, fixedRefusals, stationRefusals, restRefusals, refusals, refusedReading, acceptedReading, readOf}
-use Rattle.afp.specs.Meaning.{Meaning, refused, means, meant, meaning, shown, verdict}
-use Rattle.afp.specs.declared.Reading.{Reading}
-use Rattle.afp.proofs.Refusals.{variable-rest}
 
 -- ---- what passed tests say of the frame's length and offset
 pub envelope-fits : (f : List ℕ) → 0 ≡ firstRefusal (envelopeRefusals f) → shortestFrame ≤ length f
@@ -152,7 +152,7 @@ module _ (f : List ℕ) where
   pub read-meaning : verdict (readOf f) f ≡ meaning f
   unfolding readOf meaning refusals envelopeRefusals fixedRefusals stationRefusals restRefusals
   read-meaning =
-      guarded-map (λ r. verdict r f) refusedReading refused (acceptedReading f (stationsIn f)) refused-shown (refusals f) tt
+      guarded-map-numbered (λ r. verdict r f) refusedReading refused (acceptedReading f (stationsIn f)) refused-shown (refusals f) tt
       ∙ ap (guarded (refusals f) refused) accepted-verdict
 
   -- both promises of the reader from the first

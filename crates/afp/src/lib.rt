@@ -53,6 +53,7 @@ pub const BAD_HEADER_SUM: u8 = 39;
 pub const BAD_DATA: u8 = 40;
 
 // A part of a frame.
+#[repr(C)]
 pub struct Part {
     pub place: usize,
     pub size: usize,
@@ -60,6 +61,7 @@ pub struct Part {
 
 // What stands where in a frame; or the number of its refusal, and then all else is 0. The station fields are with their closing 0,
 // and the supplementary header with its length octet: its size is 0 where it is absent, and 1 where it is present and empty.
+#[repr(C)]
 pub struct Reading {
     pub number: u8,
     pub protocol: u8,

@@ -1,29 +1,29 @@
 -- Whatever a frame means keeps the paper's rules. Assumes nothing.
-use mathlib.Core.Path.{_≡_, refl, sym, ap, ap₂, _∙_}
+use Prim.Native.Nat.{ℕ, _-_, _≤_, _<_}
 use mathlib.Core.Bool.{Bool, true, false}
 use mathlib.Core.List.{List, [], _∷_, append-nil}
-use Prim.Native.Nat.{ℕ, _-_, _≤_, _<_}
+use mathlib.Core.Path.{_≡_, refl, sym, ap, ap₂, _∙_}
 use native.Mathlib.Omega.{arith}
 use borrow.Author.Tests.{leb-true, leb-false, eq-eqb, ne-eqb}
 use lib.Dec.{leb, eqb}
 use lib.ListN.{length, take, drop}
-use Rattle.common.proofs.Equations.{not-and}
+use Rattle.afp.specs.Layout.{offset, variablePart, stationsIn}
+use Rattle.afp.specs.Reading.{refusals}
+use Rattle.afp_laws.proofs.Accepted.{protocol-below, stations-accepted, supplementary-valid, payload-short, offset-low, offset-high, length-s, length-d, header-length, found-alone, next-there}
+use Rattle.afp_laws.specs.Parts.{partsIn, meaningOf}
+use Rattle.afp_laws.specs.Proper.{Proper}
+use Rattle.afp_write.specs.Frame.{headerLength}
+use Rattle.common.proofs.Bools.{not-and}
 use Rattle.common.proofs.Refusals.{Passed}
-use Rattle.stations.specs.declared.Next.{Next}
-use Rattle.stations.specs.declared.Stations.{Stations}
-use Rattle.stations.specs.Fields.{closedAt, stationsFrom, stationsOf, lacksNext}
-use Rattle.stations.specs.IdList.{fieldsOf, idsOf, allValid}
 use Rattle.stations.proofs.Extent.{Accepted}
 use Rattle.stations.proofs.IdList.{fields-ids, count-ids, ids-valid}
 use Rattle.stations.proofs.NextField.{next-none}
-use Rattle.supplementary.specs.Options.{validSupplementary, supplementaryOctets, supplementaryIn}
+use Rattle.stations.specs.Fields.{closedAt, stationsFrom, stationsOf, lacksNext}
+use Rattle.stations.specs.IdList.{fieldsOf, idsOf, allValid}
+use Rattle.stations.specs.declared.Next.{Next}
+use Rattle.stations.specs.declared.Stations.{Stations}
 use Rattle.supplementary.proofs.Options.{octets-in}
-use Rattle.afp.specs.Layout.{offset, variablePart, stationsIn}
-use Rattle.afp.specs.Reading.{refusals}
-use Rattle.afp_write.specs.Frame.{headerLength}
-use Rattle.afp_laws.specs.Parts.{partsIn, meaningOf}
-use Rattle.afp_laws.specs.Proper.{Proper}
-use Rattle.afp_laws.proofs.Accepted.{protocol-below, stations-accepted, supplementary-valid, payload-short, offset-low, offset-high, length-s, length-d, header-length, found-alone, next-there}
+use Rattle.supplementary.specs.Options.{validSupplementary, supplementaryOctets, supplementaryIn}
 
 -- fields with no ID are not accepted
 none-malformed : (w n : ℕ) → stationsOf w n (0 ∷ []) .end ≡ 0

@@ -1,33 +1,33 @@
 -- A frame that the writer accepts reads as what it was given, checked. Assumes nothing.
-use mathlib.Core.Path.{_≡_, refl, sym, ap, ap₂, _∙_}
+use Prim.Native.Nat.{ℕ, _+_, _-_, _≤_, _<_}
 use mathlib.Core.Bool.{Bool, true, false, not}
 use mathlib.Core.List.{List, _++_}
-use Prim.Native.Nat.{ℕ, _+_, _-_, _≤_, _<_}
+use mathlib.Core.Path.{_≡_, refl, sym, ap, ap₂, _∙_}
 use native.Mathlib.Omega.{arith}
 use borrow.Author.Tests.{ltb-false, leb-false, eqb-true, eqb-false, not-false, le-ltb, lt-leb, eq-eqb, ne-eqb}
 use lib.Dec.{leb, eqb}
 use lib.ListN.{length, take, drop}
 use lib.Seq.{take-at, drop-at, take-length}
-use Rattle.common.proofs.Equations.{or-right}
-use Rattle.common.proofs.Refusals.{Passed}
+use Rattle.afp.specs.Layout.{octet, offset, checkedLength, checkedPart, receivedCheck, variablePart, stationsIn, receivedSum, summedPart, rightHeaderSum, dataLength}
+use Rattle.afp.specs.Numbers.{shortestFrame, longestFrame, shortestHeader, longestHeader, longestData, version, firstReserved}
+use Rattle.afp.specs.Reading.{envelopeRefusals, fixedRefusals, stationRefusals, restRefusals, refusals}
+use Rattle.afp_laws.proofs.Frames as frames
+use Rattle.afp_laws.specs.Parts.{Parts, encode, encodeRefusals, partsIn}
+use Rattle.afp_write.proofs.Buffers.{length-header, length-frame}
+use Rattle.afp_write.specs.Frame.{headerLength, headerBefore, headerOf, frameOf, partRefusals, sizeRefusals, writeRefusals}
+use Rattle.common.proofs.Bools.{or-right}
 use Rattle.common.proofs.FirstRefusal.{passed-++, passed-append}
-use Rattle.sums.specs.Sum.{notCalculated, headerSum}
-use Rattle.sums.proofs.Sum.{header-calculated}
+use Rattle.common.proofs.Refusals.{Passed}
 use Rattle.fcs.specs.Fcs.{checkSequence, checkOctets}
-use Rattle.stations.specs.declared.Next.{Next}
-use Rattle.stations.specs.declared.Stations.{Stations}
-use Rattle.stations.specs.Fields.{fieldsAt, stationsOf, nextOffset, lacksNext}
 use Rattle.stations.proofs.Extent.{Accepted, stations-local}
 use Rattle.stations.proofs.Offset.{Found, offset-none, offset-some}
 use Rattle.stations.proofs.Search.{by-index}
+use Rattle.stations.specs.Fields.{fieldsAt, stationsOf, nextOffset, lacksNext}
+use Rattle.stations.specs.declared.Next.{Next}
+use Rattle.stations.specs.declared.Stations.{Stations}
+use Rattle.sums.proofs.Sum.{header-calculated}
+use Rattle.sums.specs.Sum.{notCalculated, headerSum}
 use Rattle.supplementary.specs.Options.{validSupplementary}
-use Rattle.afp.specs.Numbers.{shortestFrame, longestFrame, shortestHeader, longestHeader, longestData, version, firstReserved}
-use Rattle.afp.specs.Layout.{octet, offset, checkedLength, checkedPart, receivedCheck, variablePart, stationsIn, receivedSum, summedPart, rightHeaderSum, dataLength}
-use Rattle.afp.specs.Reading.{envelopeRefusals, fixedRefusals, stationRefusals, restRefusals, refusals}
-use Rattle.afp_write.specs.Frame.{headerLength, headerBefore, headerOf, frameOf, partRefusals, sizeRefusals, writeRefusals}
-use Rattle.afp_write.proofs.Buffers.{length-header, length-frame}
-use Rattle.afp_laws.specs.Parts.{Parts, encode, encodeRefusals, partsIn}
-use Rattle.afp_laws.proofs.Frames as frames
 
 -- ---- the next station's offset finds it again, in a list t that begins with the fields s
 module _ (n : ℕ) (s t : List ℕ) (a : Accepted (stationsOf 0 n s)) (e : stationsOf 0 n s .next .number ≡ n)

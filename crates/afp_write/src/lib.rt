@@ -18,6 +18,7 @@ const MOST_VARIABLE: usize = 248;
 const SHORT_BUFFER: u8 = 41;
 
 // How many octets were written, or the number of the refusal.
+#[repr(C)]
 pub struct Written {
     pub number: u8,
     pub count: usize,

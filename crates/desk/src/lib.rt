@@ -3,6 +3,10 @@
 ghost use mathlib.Core.Path.{_≡_};
 ghost use Rattle.qaft.specs.Check.{checkOctet};
 ghost use Rattle.qaft_write.specs.Write.{writeFrame};
+ghost use Rattle.sums.specs.Sum.{sumFrom, nextStationSum, headerSum};
+ghost use Rattle.fcs.specs.Fcs.{checkSequence};
+ghost use Rattle.afp.specs.Reading.{readOf};
+ghost use Rattle.afp_write.specs.Frame.{writeOf, bufferOf};
 
 #[no_mangle]
 pub extern "C" fn hasfandur_qaft_check(octets: &[u8]) -> u8
@@ -22,4 +26,54 @@ pub extern "C" fn hasfandur_qaft_write(
     ensures { λ _. ⌜ now (out .exit) ≡ writeFrame level «at_flag» (now («data» .entry)) (now (out .entry)) .buffer ⌝ }
 {
     qaft_write::write_frame(level, at_flag, data, out)
+}
+
+#[no_mangle]
+pub extern "C" fn hasfandur_afp_sum(octets: &[u8]) -> u8
+    ensures { λ r. ⌜ r ≡ sumFrom 0 (now (octets .entry)) ⌝ }
+{
+    sums::afp_sum(octets)
+}
+
+#[no_mangle]
+pub extern "C" fn hasfandur_afp_next_station_sum(field: &[u8]) -> u8
+    ensures { λ r. ⌜ r ≡ nextStationSum (now (field .entry)) ⌝ }
+{
+    sums::next_station_sum(field)
+}
+
+#[no_mangle]
+pub extern "C" fn hasfandur_afp_header_sum(octets: &[u8]) -> u8
+    ensures { λ r. ⌜ r ≡ headerSum (now (octets .entry)) ⌝ }
+{
+    sums::header_sum(octets)
+}
+
+#[no_mangle]
+pub extern "C" fn hasfandur_check_sequence(octets: &[u8]) -> u16
+    ensures { λ r. ⌜ r ≡ checkSequence (now (octets .entry)) ⌝ }
+{
+    fcs::check_sequence(octets)
+}
+
+#[no_mangle]
+pub extern "C" fn hasfandur_afp_read(frame: &[u8]) -> afp::Reading
+    ensures { λ r. ⌜ r ≡ readOf (now (frame .entry)) ⌝ }
+{
+    afp::read(frame)
+}
+
+#[no_mangle]
+pub extern "C" fn hasfandur_afp_write(
+    protocol: u8,
+    stations: &[u8],
+    next: usize,
+    supplementary: &[u8],
+    payload: &[u8],
+    out: &mut [u8],
+) -> afp_write::Written
+    ensures { λ r. ⌜ r ≡ writeOf protocol (now (stations .entry)) next (now (supplementary .entry)) (now (payload .entry)) (now (out .entry)) ⌝ }
+    ensures { λ _. ⌜ now (out .exit) ≡ bufferOf protocol (now (stations .entry)) next (now (supplementary .entry)) (now (payload .entry)) (now (out .entry)) ⌝ }
+{
+    afp_write::write(protocol, stations, next, supplementary, payload, out)
 }

@@ -1,21 +1,21 @@
 -- A list of IDs and its station fields determine each other. Assumes nothing.
-use mathlib.Core.Path.{_≡_, refl, sym, ap, ap₂, _∙_}
+use Prim.Native.Nat.{ℕ, zero, suc, _+_}
 use mathlib.Core.Bool.{Bool, true, false, cond, _&&_}
 use mathlib.Core.List.{List, [], _∷_, _++_, append-assoc}
-use Prim.Native.Nat.{ℕ, zero, suc, _+_}
+use mathlib.Core.Path.{_≡_, refl, sym, ap, ap₂, _∙_}
 use native.Mathlib.Omega.{arith}
 use borrow.Author.Tests.{eqb-true, ne-eqb}
 use lib.Dec.{eqb}
 use lib.ListN.{length, take, length-append}
 use lib.Seq.{length-take-le, take-at, drop-at}
-use Rattle.common.proofs.Equations.{and-both}
+use Rattle.common.proofs.Bools.{and-both}
 use Rattle.ids.specs.Id.{validId, callsignLength}
+use Rattle.stations.proofs.Extent.{Accepted, on-length-ind, stations-from-ends}
+use Rattle.stations.proofs.Fields.{stations-from-skip}
 use Rattle.stations.specs.Fields.{noNext, malformed, nextAfter, closedAt, stationsFrom, stationsOf}
 use Rattle.stations.specs.IdList.{fieldsOf, idsFrom, idsOf, allValid}
 use Rattle.stations.specs.declared.Next.{Next}
 use Rattle.stations.specs.declared.Stations.{Stations}
-use Rattle.stations.proofs.Extent.{Accepted, on-length-ind, stations-from-ends}
-use Rattle.stations.proofs.Fields.{stations-from-skip}
 
 -- ---- station fields and their IDs
 abbrev Whole : (p m : ℕ) → List (List ℕ) → List ℕ → List ℕ → Stations → Type 0

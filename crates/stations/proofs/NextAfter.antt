@@ -1,14 +1,14 @@
 -- The answers of next_after, one law for each. Assumes nothing.
-use mathlib.Core.Path.{_≡_, refl, sym, ap, ap₂, _∙_}
+use Prim.Native.Nat.{ℕ}
 use mathlib.Core.Bool.{Bool, true, false, cond, _||_}
 use mathlib.Core.List.{List}
-use Prim.Native.Nat.{ℕ}
+use mathlib.Core.Path.{_≡_, refl, sym, ap, ap₂, _∙_}
 use borrow.Author.Tests.{eq-eqb, ne-eqb}
 use lib.Dec.{eqb}
-use Rattle.common.proofs.Equations.{or-right}
-use Rattle.sums.specs.Sum.{nextStationSum}
+use Rattle.common.proofs.Bools.{or-right}
 use Rattle.stations.specs.Fields.{nextAfter, matches}
 use Rattle.stations.specs.declared.Next.{Next}
+use Rattle.sums.specs.Sum.{nextStationSum}
 
 module _ (w n p m : ℕ) (field : List ℕ) (x : Next) where
   abbrev here : Next

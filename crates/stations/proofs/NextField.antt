@@ -1,23 +1,23 @@
 -- The next station of the fields of IDs that keep the rule: looked for by its number n it is the ID number n, where n is 2 or more and there is one;
 -- octet 4's index finds the same. Assumes nothing.
-use mathlib.Core.Path.{_≡_, refl, sym, ap, ap₂, _∙_}
+use Prim.Native.Nat.{ℕ, zero, suc, _+_, _-_, _≤_, _<_}
 use mathlib.Core.Bool.{Bool, true, cond}
 use mathlib.Core.List.{List, [], _∷_, _++_, append-assoc}
-use Prim.Native.Nat.{ℕ, zero, suc, _+_, _-_, _≤_, _<_}
+use mathlib.Core.Path.{_≡_, refl, sym, ap, ap₂, _∙_}
 use native.Mathlib.Omega.{arith}
 use borrow.Author.Tests.{eq-eqb, ne-eqb}
 use lib.Dec.{eqb}
 use lib.ListN.{length, getD, take, length-append}
-use Rattle.common.proofs.Equations.{or-right, or-none, and-both}
-use Rattle.sums.specs.Sum.{nextStationSum}
+use Rattle.common.proofs.Bools.{or-right, or-none, and-both}
 use Rattle.ids.specs.Id.{validId}
+use Rattle.stations.proofs.IdList.{closing, pass-id}
+use Rattle.stations.proofs.Offset.{Found}
+use Rattle.stations.proofs.Search.{here, next-after-found, next-after-source, next-after-here, next-after-other, by-index}
 use Rattle.stations.specs.Fields.{noNext, malformed, nextAfter, closedAt, stationsFrom, stationsOf}
 use Rattle.stations.specs.IdList.{fieldsOf, allValid, fieldOf, indexOf}
 use Rattle.stations.specs.declared.Next.{Next}
 use Rattle.stations.specs.declared.Stations.{Stations}
-use Rattle.stations.proofs.Offset.{Found}
-use Rattle.stations.proofs.Search.{here, next-after-found, next-after-source, next-after-here, next-after-other, by-index}
-use Rattle.stations.proofs.IdList.{closing, pass-id}
+use Rattle.sums.specs.Sum.{nextStationSum}
 
 -- the ID number n as the next station
 abbrev pub nextOf : ℕ → List (List ℕ) → Next

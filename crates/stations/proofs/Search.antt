@@ -1,20 +1,20 @@
 -- The next station looked for by its index and by its number: either finds what the other found. Assumes nothing.
-use mathlib.Core.Path.{_≡_, refl, ap}
+use Prim.Native.Nat.{ℕ, zero, suc, _+_, _-_, _≤_, _<_}
 use mathlib.Core.Bool.{Bool, true, false, cond}
 use mathlib.Core.List.{List, [], _∷_}
-use Prim.Native.Nat.{ℕ, zero, suc, _+_, _-_, _≤_, _<_}
+use mathlib.Core.Path.{_≡_, refl, ap}
 use native.Mathlib.Omega.{arith}
 use borrow.Author.Tests.{eqb-true, eqb-false, eq-eqb, ne-eqb}
 use lib.Dec.{eqb}
 use lib.ListN.{take}
-use Rattle.sums.specs.Sum.{nextStationSum}
+use Rattle.common.proofs.Bools.{or-left, or-right, or-none}
 use Rattle.ids.specs.Id.{validId}
+use Rattle.stations.proofs.Extent.{on-length-ind, on-length-ind₂}
+use Rattle.stations.proofs.Offset.{Found}
 use Rattle.stations.specs.Fields.{noNext, malformed, matches, nextAfter, closedAt, onLength, stationsFrom, stationsOf}
 use Rattle.stations.specs.declared.Next.{Next}
 use Rattle.stations.specs.declared.Stations.{Stations}
-use Rattle.common.proofs.Equations.{or-left, or-right, or-none}
-use Rattle.stations.proofs.Offset.{Found}
-use Rattle.stations.proofs.Extent.{on-length-ind, on-length-ind₂}
+use Rattle.sums.specs.Sum.{nextStationSum}
 
 -- the next station where the fields are closed
 closed-ind : (P : Next → Type 0) (p m : ℕ) (x : Next) → P x → P noNext → P (closedAt p m x .next)
