@@ -3,6 +3,8 @@ use Prim.Native.Nat.{ℕ}
 use mathlib.Core.Path.{_≡_}
 use mathlib.Core.Bool.{false}
 use mathlib.Core.List.{List, [], _∷_, _++_}
+use Rattle.sums.specs.Sum.{sumFrom}
+use Rattle.afp_write.specs.Frame.{frameOf}
 use Rattle.qaft.specs.Escape.{flag}
 use Rattle.qaft.specs.Frame.{frame}
 use Rattle.qaft_laws.specs.Reports.{Reported, aborted, short, badCheck, reportsOf}
@@ -13,11 +15,17 @@ pub data Case : Type 0 where
   writes : (level : ℕ) (d l : List ℕ) → Case
   -- a stretch between two flags, and its report
   reports : (s : List ℕ) → Reported → Case
+  -- AFP: octets and their sum
+  sums : (xs : List ℕ) (s : ℕ) → Case
+  -- AFP: protocol, station fields, next ID's number, supplementary header; the header of a frame with no data, check octets behind it
+  heads : (p : ℕ) (s : List ℕ) (n : ℕ) (h header check : List ℕ) → Case
 
 -- what a row claims
 abbrev pub Holds : Case → Type 0
 Holds (writes level d l) = frame level false d ≡ l
 Holds (reports s p) = reportsOf (flag ∷ s ++ (flag ∷ [])) ≡ p ∷ []
+Holds (sums xs s) = sumFrom 0 xs ≡ s
+Holds (heads p s n h header check) = frameOf p s n h [] ≡ header ++ check
 
 -- every row of a list holds
 abbrev pub Each : List Case → Type 0
@@ -37,4 +45,8 @@ table =
     ∷ reports (0x10 ∷ 0x7D ∷ []) aborted
     ∷ reports (0x00 ∷ []) short
     ∷ reports (0x41 ∷ 0xBE ∷ []) badCheck
+    ∷ sums (0x04 ∷ 0x41 ∷ 0x42 ∷ 0x31 ∷ 0x43 ∷ []) 0xFB
+    ∷ heads 0xF0 (0x04 ∷ 0x41 ∷ 0x42 ∷ 0x31 ∷ 0x43 ∷ 0x00 ∷ []) 0 []
+    (0xFF ∷ 0x01 ∷ 0xF0 ∷ 0x0C ∷ 0x00 ∷ 0x04 ∷ 0x41 ∷ 0x42 ∷ 0x31 ∷ 0x43 ∷ 0x00 ∷ 0xF9 ∷ [])
+    (0x85 ∷ 0xDA ∷ [])
     ∷ []
