@@ -1,7 +1,7 @@
 // The AFP reader: the first refusal of a frame, or what stands where in it.
 ghost use mathlib.Core.Path.{_≡_};
 ghost use Prim.Native.Nat.{_+_, _-_, _≤_};
-ghost use lib.ListN.{length, getD, take, drop};
+ghost use lib.ListN.{length};
 ghost use Rattle.common.specs.FirstRefusal.{firstRefusal};
 ghost use Rattle.afp.specs.Numbers.{shortestFrame, shortestHeader};
 ghost use Rattle.afp.specs.Layout.{offset, stationsIn, rightHeaderSum};

@@ -5,5 +5,6 @@ pub mod Meanings
 pub mod Writable
 pub mod ReadProper
 pub mod Changed
+pub mod Neighbours
 pub mod Theorems
 pub mod Worked

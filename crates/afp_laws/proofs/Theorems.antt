@@ -9,7 +9,8 @@
 --   read-written        what a frame means can be written, and reads as the same meaning
 --   read-written-again  a frame that was checked comes back octet for octet
 --   frame-covered       a frame's length, and header, data and two check octets with nothing between
---   changed-octet-31    one changed octet is refused by 31; written-changed says it of what was written
+--   changed-octet-31    one changed octet is refused by 31; written-changed says it of what was written,
+--                       and changed-neighbours-31 (Neighbours) of two octets side by side
 use mathlib.Core.Path.{_≡_, sym, ap, ap₂, _∙_}
 use mathlib.Core.Bool.{Bool, false}
 use mathlib.Core.List.{List, _++_, append-assoc}

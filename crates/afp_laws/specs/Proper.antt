@@ -1,4 +1,4 @@
--- The rules that the paper gives for a meaning, in its own terms. Cited by the law that each such meaning can be written. Assumes nothing.
+-- The rules that the paper gives for a meaning, in its own terms. Cited by the laws that each such meaning is written, and no other read. Assumes nothing.
 use mathlib.Core.Path.{_≡_}
 use mathlib.Core.Bool.{true}
 use Prim.Native.Nat.{_≤_, _<_}
