@@ -1,0 +1,114 @@
+-- The count of DATA sent, one direction, in whole numbers. Assumes nothing.
+--
+-- Either nothing was lost since the last "send all" (Clean), and then what is in flight and what was answered account for every payload
+-- sent so far; or something was (Dirty), and then a window of DATA is already paid for by the lost packet.
+--
+--   reached     payloads sent at least once
+use Prim.Native.Nat.{ℕ, zero, suc, _+_, _*_, _≤_, _<_}
+use mathlib.Core.Path.{_≡_, refl}
+use mathlib.Core.Logic.{_⊎_, inl, inr, _≢_}
+use mathlib.Core.List.{List, [], _∷_, _++_}
+use native.Mathlib.Omega.{arith}
+use lib.ListN.{length, length-append}
+use Rattle.window.specs.Packets.{Payload, Payloads}
+use Rattle.window.proofs.Rising.{Chain, chain-raise, chain-snoc, lastOr, lastOr-snoc}
+use Rattle.window.proofs.InFlight.{InFlight, indices, indices-++, batch, batch-chain}
+
+-- by cases on one of two
+pub either-way : {A B C : Type 0} → (A → C) → (B → C) → A ⊎ B → C
+either-way f g (inl a) = f a
+either-way f g (inr b) = g b
+
+-- with no DATA in flight, the last DACK on the way (or the base) acknowledges all that was sent
+abbrev pub Answered : List InFlight → ℕ → ℕ → Type 0
+Answered [] reached z = reached ≤ z
+Answered (f ∷ fs) reached z = Unit {0}
+
+answered-snoc : (fs : List InFlight) (f : InFlight) (t z : ℕ) → Answered (fs ++ (f ∷ [])) t z
+answered-snoc [] f t z = tt
+answered-snoc (g ∷ fs) f t z = tt
+
+answered-batch : (c m z : ℕ) (q : Payloads) → c ≤ m + length q → m ≤ z → Answered (batch c m q) c z
+answered-batch c m z [] h k = omega arith
+answered-batch c m z (p ∷ q) h k = tt
+
+-- a DACK that was just sent acknowledges what the chain had reached
+answered-end : (fs : List InFlight) (u reached base : ℕ) (dacks : List ℕ) → Chain u (indices fs) reached → Answered fs reached (lastOr base (dacks ++ (u ∷ [])))
+answered-end [] u reached base dacks h = rw (lastOr-snoc base dacks u) h
+answered-end (f ∷ fs) u reached base dacks h = tt
+
+module _ (W : ℕ) where
+  pub record Clean (accepted base received reached : ℕ) (flight : List InFlight) (dacks : List ℕ) (sent lost : ℕ) : Type 0 where
+    pub sum : sent ≤ reached + W * lost
+    pub some : reached ≤ accepted
+    pub chain : Chain received (indices flight) reached
+    pub last : Answered flight reached (lastOr base dacks)
+
+  abbrev pub Dirty : ℕ → ℕ → ℕ → Type 0
+  Dirty accepted sent lost = sent + W ≤ accepted + W * lost
+
+  abbrev pub Count : (accepted base received reached : ℕ) (flight : List InFlight) (dacks : List ℕ) (sent lost : ℕ) → Type 0
+  Count accepted base received reached flight dacks sent lost = Clean accepted base received reached flight dacks sent lost ⊎ Dirty accepted sent lost
+
+  module _ {accepted base received reached : ℕ} {flight : List InFlight} {dacks : List ℕ} {sent lost : ℕ} where
+    -- what the count is for
+    pub count-bound : Count accepted base received reached flight dacks sent lost → sent ≤ accepted + W * lost
+    count-bound (inl c) = omega (arith, c .sum, c .some)
+    count-bound (inr d) = omega arith
+
+    -- a packet is lost: whatever is in flight now, and whatever is acknowledged
+    pub count-lose : Count accepted base received reached flight dacks sent lost → Dirty accepted sent (suc lost)
+    count-lose (inl c) = omega (arith, c .sum, c .some)
+    count-lose (inr d) = omega arith
+
+    pub count-accept : Count accepted base received reached flight dacks sent lost → Count (suc accepted) base received reached flight dacks sent lost
+    count-accept (inl c) = inl (record { sum = c .sum; some = omega (arith, c .some); chain = c .chain; last = c .last })
+    count-accept (inr d) = inr (omega arith)
+
+    -- accepted and sent at once
+    pub count-send-one : (p : Payload) → reached ≡ accepted → Count accepted base received reached flight dacks sent lost
+        → Count (suc accepted) base received (suc accepted) (flight ++ (record { index = accepted; limit = suc accepted; payload = p } ∷ [])) dacks (suc sent) lost
+    count-send-one p t (inl c) =
+        let f : InFlight = record { index = accepted; limit = suc accepted; payload = p } in
+        inl (record {
+          sum = omega (arith, c .sum);
+          some = omega arith;
+          chain = rw (indices-++ flight (f ∷ []), ← t) (chain-snoc received (indices flight) reached (c .chain));
+          last = answered-snoc flight f (suc accepted) (lastOr base dacks);
+        })
+    count-send-one p t (inr d) = inr (omega arith)
+
+  module _ {accepted base received reached : ℕ} {flight : List InFlight} {dacks : List ℕ} {sent lost : ℕ} where
+    pub count-deliver : {f : InFlight} → f .index ≡ received → Count accepted base received reached (f ∷ flight) dacks sent lost
+        → Count accepted base (suc received) reached flight (dacks ++ (suc received ∷ [])) sent lost
+    count-deliver {f} h (inl c) =
+        let t : Chain (suc received) (indices flight) reached = chain-raise (suc (f .index)) (suc received) (indices flight) reached (omega (arith, h)) (c .chain .1) in
+        inl (record { sum = c .sum; some = c .some; chain = t; last = answered-end flight (suc received) reached base dacks t })
+    count-deliver h (inr d) = inr d
+
+    pub count-repeat : {f : InFlight} → f .index ≢ received → Count accepted base received reached (f ∷ flight) dacks sent lost
+        → Count accepted base received reached flight (dacks ++ (received ∷ [])) sent lost
+    count-repeat {f} h (inl c) =
+        let t : Chain received (indices flight) reached = chain-raise (suc (f .index)) received (indices flight) reached (omega (arith, h, c .chain .0)) (c .chain .1) in
+        inl (record { sum = c .sum; some = c .some; chain = t; last = answered-end flight received reached base dacks t })
+    count-repeat h (inr d) = inr d
+
+  pub count-acknowledge : {accepted base received reached k : ℕ} (flight : List InFlight) {dacks : List ℕ} {sent lost : ℕ}
+      → Count accepted base received reached flight (k ∷ dacks) sent lost
+      → Count accepted k received reached flight dacks sent lost
+  count-acknowledge [] (inl c) = inl (record { sum = c .sum; some = c .some; chain = c .chain; last = c .last })
+  count-acknowledge (f ∷ flight) (inl c) = inl (record { sum = c .sum; some = c .some; chain = c .chain; last = tt })
+  count-acknowledge flight (inr d) = inr d
+
+  -- "send all" with nothing in flight and no DACK on the way: all that was sent is acknowledged or paid for, and the count is clean again
+  pub count-send-all : {accepted base received reached sent lost : ℕ} (q : Payloads) → base ≤ received → accepted ≡ base + length q → length q ≤ W
+      → Count accepted base received reached [] [] sent lost
+      → Clean accepted base received accepted (batch accepted base q) [] (sent + length q) lost
+  count-send-all {accepted} {base} {received} {reached} {sent} {lost} q b e w c = record {
+    sum = either-way
+        (λ (c : Clean accepted base received reached [] [] sent lost). omega (arith, c .sum, c .last))
+        (λ (d : Dirty accepted sent lost). omega (arith, d)) c;
+    some = omega arith;
+    chain = chain-raise base received (indices (batch accepted base q)) accepted b (rw e (batch-chain (base + length q) base q));
+    last = answered-batch accepted base base q (omega arith) (omega arith);
+  }

@@ -1,0 +1,203 @@
+-- One direction: a sender, a receiver, DATA in flight and DACKs on the way back. The residues that the ends hold against whole numbers,
+-- and the count. Assumes nothing.
+--
+-- What the proof knows beside the state stands as a parameter: `acked` are the payloads that left the queue, `reached` is how many were sent
+-- at least once, and P says that the sender's timer has waited so far.
+use Prim.Native.Nat.{ℕ, zero, suc, _+_, _-_, _*_, _%_, _≤_, _<_, min}
+use mathlib.Core.Path.{_≡_, refl, sym, ap, subst, _∙_}
+use mathlib.Core.Logic.{_⊎_, inl, inr, _≢_}
+use mathlib.Core.Bool.{Bool, true, false, not}
+use mathlib.Core.Option.{some}
+use mathlib.Core.List.{List, [], _∷_, _++_, append-assoc}
+use native.Mathlib.Omega.{arith}
+use native.Mathlib.Nat.{add-zero}
+use lib.Dec.{T, T-not}
+use lib.ListN.{length, length-append, length-take, take, drop, take-append-drop, getElem?}
+use Rattle.window.specs.Sides.{without}
+use Rattle.window.specs.Packets.{modulus, Payload, Payloads}
+use Rattle.window.specs.Ends.{Rules, Sender, Receiver, queued, counted, lostOne, freed, delivering}
+use Rattle.window.proofs.Rising.{rising-le}
+use Rattle.window.proofs.InFlight.{InFlight, batch, prefix-snoc}
+use Rattle.window.proofs.Window.{InWindow, window-deliver, window-repeat, window-acknowledge, window-lose-data, window-lose-dack, window-agrees, window-dack, window-accept, window-send-one, window-send-all}
+use Rattle.window.proofs.Count.{Count, count-bound, count-lose, count-accept, count-send-one, count-deliver, count-repeat, count-acknowledge, count-send-all}
+
+module _ (r : Rules) where
+  pub record Flow (P : Type 0) (acked : Payloads) (reached : ℕ) (x : Sender) (y : Receiver) (flight : List InFlight) (dacks : List ℕ) : Type 0 where
+    -- accepted and not yet delivered
+    pub pending : Payloads
+    pub split : acked ++ x .queue ≡ x .accepted
+    pub prefix : y .delivered ++ pending ≡ x .accepted
+    pub base : x .base ≡ length acked % modulus
+    pub expected : y .expected ≡ length (y .delivered) % modulus
+    pub window : InWindow (r .window) (x .accepted) (length acked) (length (y .delivered)) flight dacks
+    pub once : T (r .atOnce) → reached ≡ length (x .accepted)
+    pub count : P → Count (r .window) (length (x .accepted)) (length acked) (length (y .delivered)) reached flight dacks (x .sent) (x .lost)
+
+  module _ {P : Type 0} {acked : Payloads} {reached : ℕ} {x : Sender} {y : Receiver} {flight : List InFlight} {dacks : List ℕ} where
+    pub flow-bound : Flow P acked reached x y flight dacks → P → x .sent ≤ length (x .accepted) + r .window * x .lost
+    flow-bound f h = count-bound (r .window) (f .count h)
+
+    pub flow-weaken : {Q : Type 0} → (Q → P) → Flow P acked reached x y flight dacks → Flow Q acked reached x y flight dacks
+    flow-weaken g f = record {
+      pending = f .pending;
+      split = f .split;
+      prefix = f .prefix;
+      base = f .base;
+      expected = f .expected;
+      window = f .window;
+      once = f .once;
+      count = λ h. f .count (g h);
+    }
+
+    pub flow-length : Flow P acked reached x y flight dacks → length (x .accepted) ≡ length acked + length (x .queue)
+    flow-length f = ap length (sym (f .split)) ∙ length-append acked (x .queue)
+
+    -- a payload is accepted, and not sent at once
+    pub flow-accept : (p : Payload) → T (not (r .atOnce)) → length (x .queue) < r .window → Flow P acked reached x y flight dacks → Flow P acked reached (queued p 0 x) y flight dacks
+    flow-accept p t h f = record {
+      pending = f .pending ++ (p ∷ []);
+      split = sym (append-assoc acked (x .queue) (p ∷ [])) ∙ ap (λ (l : Payloads). l ++ (p ∷ [])) (f .split);
+      prefix = sym (append-assoc (y .delivered) (f .pending) (p ∷ [])) ∙ ap (λ (l : Payloads). l ++ (p ∷ [])) (f .prefix);
+      base = f .base;
+      expected = f .expected;
+      window = window-accept (r .window) p (omega (arith, flow-length f)) (f .window);
+      once = λ u. absurd (T-not (r .atOnce) t u);
+      count = λ u. rw (add-zero (x .sent), longer) (count-accept (r .window) (f .count u));
+    }
+      where
+        longer : length (x .accepted ++ (p ∷ [])) ≡ suc (length (x .accepted))
+        longer = omega (arith, length-append (x .accepted) (p ∷ []))
+
+    -- accepted and sent at once
+    pub flow-accept-once : (p : Payload) → T (r .atOnce) → length (x .queue) < r .window → Flow P acked reached x y flight dacks
+        → Flow P acked (suc (length (x .accepted))) (queued p 1 x) y (flight ++ (record { index = length (x .accepted); limit = suc (length (x .accepted)); payload = p } ∷ [])) dacks
+    flow-accept-once p t h f = record {
+      pending = f .pending ++ (p ∷ []);
+      split = sym (append-assoc acked (x .queue) (p ∷ [])) ∙ ap (λ (l : Payloads). l ++ (p ∷ [])) (f .split);
+      prefix = sym (append-assoc (y .delivered) (f .pending) (p ∷ [])) ∙ ap (λ (l : Payloads). l ++ (p ∷ [])) (f .prefix);
+      base = f .base;
+      expected = f .expected;
+      window = window-send-one (r .window) (x .accepted) p (omega (arith, h)) (window-accept (r .window) p (omega (arith, flow-length f)) (f .window));
+      once = λ u. sym longer;
+      count = λ u. rw (longer, one-more) (count-send-one (r .window) p (f .once t) (f .count u));
+    }
+      where
+        longer : length (x .accepted ++ (p ∷ [])) ≡ suc (length (x .accepted))
+        longer = omega (arith, length-append (x .accepted) (p ∷ []))
+
+        one-more : x .sent + 1 ≡ suc (x .sent)
+        one-more = omega arith
+
+    -- "send all"; the count goes on where nothing of this direction is on the line
+    pub flow-send-all : (n : ℕ) → n ≡ length (x .queue) → Flow P acked reached x y flight dacks
+        → Flow (P × (flight ≡ []) × (dacks ≡ [])) acked (length (x .accepted)) (counted n x) y (flight ++ batch (length (x .accepted)) (length acked) (x .queue)) dacks
+    flow-send-all n e f = record {
+      pending = f .pending;
+      split = f .split;
+      prefix = f .prefix;
+      base = f .base;
+      expected = f .expected;
+      window = subst (λ (l : Payloads). InWindow (r .window) l (length acked) (length (y .delivered)) (flight ++ batch (length l) (length acked) (x .queue)) dacks) (f .split)
+          (window-send-all (r .window) acked (x .queue) refl (rw (← (f .split)) at (f .window)));
+      once = λ u. refl;
+      count = λ u. inl (rw (u .1, u .2, e)
+          (count-send-all (r .window) (x .queue) (rising-le (length acked) dacks (length (y .delivered)) (f .window .acks)) (flow-length f)
+          (omega (arith, f .window .room, flow-length f)) (rw (u .1, u .2) at (f .count (u .0)))));
+    }
+
+    pub flow-lose-data : (n : ℕ) → Flow P acked reached x y flight dacks → Flow P acked reached (lostOne x) y (without n flight) dacks
+    flow-lose-data n f = record {
+      pending = f .pending;
+      split = f .split;
+      prefix = f .prefix;
+      base = f .base;
+      expected = f .expected;
+      window = window-lose-data (r .window) n (f .window);
+      once = f .once;
+      count = λ u. inr (count-lose (r .window) (f .count u));
+    }
+
+    pub flow-lose-dack : (n : ℕ) → Flow P acked reached x y flight dacks → Flow P acked reached (lostOne x) y flight (without n dacks)
+    flow-lose-dack n f = record {
+      pending = f .pending;
+      split = f .split;
+      prefix = f .prefix;
+      base = f .base;
+      expected = f .expected;
+      window = window-lose-dack (r .window) n (f .window);
+      once = f .once;
+      count = λ u. inr (count-lose (r .window) (f .count u));
+    }
+
+  module _ {P : Type 0} {acked : Payloads} {reached : ℕ} {x : Sender} {y : Receiver} {flight : List InFlight} {dacks : List ℕ} where
+    module _ (w : r .window < modulus) where
+      -- DATA with the expected number arrives
+      pub flow-deliver : {d : InFlight} → d .index % modulus ≡ y .expected → Flow P acked reached x y (d ∷ flight) dacks
+          → Flow P acked reached x (delivering (d .payload) y) flight (dacks ++ (suc (length (y .delivered)) ∷ []))
+      flow-deliver {d} h f = record {
+        pending = grown .0;
+        split = f .split;
+        prefix = grown .1 ∙ f .prefix;
+        base = f .base;
+        expected = omega (arith, f .expected, longer);
+        window = rw longer (window-deliver (r .window) (f .window) same);
+        once = f .once;
+        count = λ u. rw longer (count-deliver (r .window) same (f .count u));
+      }
+        where
+          same : d .index ≡ length (y .delivered)
+          same = window-agrees (r .window) w (f .window) (omega (arith, h, f .expected))
+
+          longer : length (y .delivered ++ (d .payload ∷ [])) ≡ suc (length (y .delivered))
+          longer = omega (arith, length-append (y .delivered) (d .payload ∷ []))
+
+          here : getElem? (y .delivered ++ f .pending) (length (y .delivered)) ≡ some (d .payload)
+          here = rw (f .prefix, ← same) (f .window .fits .0 .2)
+
+          grown : (t : Payloads) × ((y .delivered ++ (d .payload ∷ [])) ++ t ≡ y .delivered ++ f .pending)
+          grown = prefix-snoc (y .delivered) (f .pending) (d .payload) here
+
+      -- a DACK arrives: it acknowledges k, and frees the slots between; none where it is the base
+      pub flow-acknowledge : {k : ℕ} → Flow P acked reached x y flight (k ∷ dacks)
+          → (k - length acked ≤ length (x .queue)) × Flow P (acked ++ take (k - length acked) (x .queue)) reached (freed (k - length acked) x) y flight dacks
+      flow-acknowledge {k} f = (
+        fewer,
+        record {
+          pending = f .pending;
+          split = append-assoc acked (take (k - length acked) (x .queue)) (drop (k - length acked) (x .queue))
+              ∙ ap (λ (l : Payloads). acked ++ l) (take-append-drop (k - length acked) (x .queue))
+              ∙ f .split;
+          prefix = f .prefix;
+          base = omega (arith, f .base, longer, bounds .0);
+          expected = f .expected;
+          window = rw longer (window-acknowledge (r .window) (f .window));
+          once = f .once;
+          count = λ u. rw longer (count-acknowledge (r .window) flight (f .count u));
+        },
+      )
+        where
+          bounds : (length acked ≤ k) × (k ≤ length (x .accepted)) × (k < length acked + modulus)
+          bounds = window-dack (r .window) w (f .window)
+
+          fewer : k - length acked ≤ length (x .queue)
+          fewer = omega (arith, bounds .0, bounds .1, flow-length f)
+
+          longer : length (acked ++ take (k - length acked) (x .queue)) ≡ k
+          longer = omega (arith, bounds .0, fewer, length-append acked (take (k - length acked) (x .queue)), length-take (k - length acked) (x .queue))
+
+    -- DATA with another number arrives
+    pub flow-repeat : {d : InFlight} → d .index % modulus ≢ y .expected → Flow P acked reached x y (d ∷ flight) dacks
+        → Flow P acked reached x y flight (dacks ++ (length (y .delivered) ∷ []))
+    flow-repeat {d} h f = record {
+      pending = f .pending;
+      split = f .split;
+      prefix = f .prefix;
+      base = f .base;
+      expected = f .expected;
+      window = window-repeat (r .window) (f .window);
+      once = f .once;
+      count = λ u. count-repeat (r .window) other (f .count u);
+    }
+      where
+        other : d .index ≢ length (y .delivered)
+        other e = h (ap (λ (n : ℕ). n % modulus) e ∙ sym (f .expected))

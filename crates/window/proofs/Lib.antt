@@ -1,0 +1,9 @@
+pub mod Rising
+pub mod InFlight
+pub mod Window
+pub mod Count
+pub mod Marks
+pub mod Flow
+pub mod Invariant
+pub mod Arrival
+pub mod SlidingWindow

@@ -1,0 +1,23 @@
+-- Two ends of something, and what happens at one of them. Cited by the sliding window and by the statement over octets in `dlc_pair`.
+-- Assumes nothing.
+use Prim.Native.Nat.{ℕ, zero, suc}
+use mathlib.Core.List.{List, [], _∷_}
+
+pub data Side : Type 0 where
+  left : Side
+  right : Side
+
+-- the two ends
+pub record Both (E : Type 0) : Type 0 where
+  pub left : E
+  pub right : E
+
+-- the ends exchanged: what happens at the right end is what happens at the left one, seen in the mirror
+abbrev pub mirror : {E : Type 0} → Both E → Both E
+mirror s = record { left = s .right; right = s .left }
+
+-- a list without its element at index n; the same list where it has none there
+abbrev pub without : {A : Type 0} → ℕ → List A → List A
+without n [] = []
+without zero (x ∷ xs) = xs
+without (suc n) (x ∷ xs) = x ∷ without n xs
