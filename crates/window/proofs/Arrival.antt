@@ -9,8 +9,8 @@ use lib.ListN.{length, take, drop}
 use borrow.Author.Tests.{le-leb, lt-leb, leb-false, eqb-true, eqb-false}
 use Rattle.common.proofs.Bools.{either}
 use Rattle.window.specs.Sides.{Both}
-use Rattle.window.specs.Packets.{modulus, Payloads, Packet, dackPacket}
-use Rattle.window.specs.Ends.{Rules, Lawful, Sender, End, freed, acknowledges, acknowledged, withLine, withSender, deliver, repeatDack}
+use Rattle.window.specs.Packets.{modulus, Payloads, Packet, dackPdu}
+use Rattle.window.specs.Ends.{Rules, Lawful, Sender, End, freed, acknowledges, applyDack, withLine, withSender, deliver, repeatDack}
 use Rattle.window.specs.Events.{arrive}
 use Rattle.window.proofs.InFlight.{InFlight}
 use Rattle.window.proofs.Window.{window-dack}
@@ -47,7 +47,7 @@ module _ (r : Rules) (law : Lawful r) {P Q : Type 0} (s : Both End) (v : Invaria
         rightAcked = v .rightAcked;
         leftReached = v .leftReached;
         rightReached = v .rightReached;
-        leftLine = (λ i. v .leftLine i ++ (dackPacket (r .dackNumber (next i)) ∷ []))
+        leftLine = (λ i. v .leftLine i ++ (dackPdu (r .dackNumber (next i)) ∷ []))
             ∙ sym (map-append (packetOf (r .dackNumber)) (v .leftMarks) (dackMark (suc (length (s .left .receiver .delivered))) ∷ []));
         rightLine = refl;
         leftFlow = rw (dack-data (v .leftMarks) (suc (length (s .left .receiver .delivered)))) other;
@@ -66,7 +66,7 @@ module _ (r : Rules) (law : Lawful r) {P Q : Type 0} (s : Both End) (v : Invaria
         rightAcked = v .rightAcked;
         leftReached = v .leftReached;
         rightReached = v .rightReached;
-        leftLine = (λ i. v .leftLine i ++ (dackPacket (r .dackNumber (flow .expected i)) ∷ []))
+        leftLine = (λ i. v .leftLine i ++ (dackPdu (r .dackNumber (flow .expected i)) ∷ []))
             ∙ sym (map-append (packetOf (r .dackNumber)) (v .leftMarks) (dackMark (length (s .left .receiver .delivered)) ∷ []));
         rightLine = refl;
         leftFlow = rw (dack-data (v .leftMarks) (length (s .left .receiver .delivered))) other;
@@ -136,8 +136,8 @@ module _ (r : Rules) (law : Lawful r) {P Q : Type 0} (s : Both End) (v : Invaria
           bounds : (length (v .leftAcked) ≤ k) × (k ≤ length (s .left .sender .accepted)) × (k < length (v .leftAcked) + modulus)
           bounds = window-dack (r .window) (law .below) (flow .window)
 
-          away : r .distance (r .dackNumber (k % modulus)) (s .left .sender .base) ≡ k - length (v .leftAcked)
-          away = ap (r .distance (r .dackNumber (k % modulus))) (flow .base) ∙ law .distance (length (v .leftAcked)) k (bounds .0) (bounds .2)
+          away : r .distance (s .left .sender .base) (r .dackNumber (k % modulus)) ≡ k - length (v .leftAcked)
+          away = ap (λ (b : ℕ). r .distance b (r .dackNumber (k % modulus))) (flow .base) ∙ law .distance (length (v .leftAcked)) k (bounds .0) (bounds .2)
 
   by-front : (g : List Mark) → v .rightMarks ≡ g → (ok : Bool) → Invariant r P Q (arrive r ok (map (packetOf (r .dackNumber)) g) s)
   by-front [] e ok = v

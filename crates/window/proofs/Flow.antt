@@ -13,7 +13,7 @@ use native.Mathlib.Omega.{arith}
 use native.Mathlib.Nat.{add-zero}
 use lib.Dec.{T, T-not}
 use lib.ListN.{length, length-append, length-take, take, drop, take-append-drop, getElem?}
-use Rattle.window.specs.Sides.{without}
+use Rattle.window.specs.Sides.{eraseAt}
 use Rattle.window.specs.Packets.{modulus, Payload, Payloads}
 use Rattle.window.specs.Ends.{Rules, Sender, Receiver, queued, counted, lostOne, freed, delivering}
 use Rattle.window.proofs.Rising.{rising-le}
@@ -105,7 +105,7 @@ module _ (r : Rules) where
           (omega (arith, f .window .room, flow-length f)) (rw (u .1, u .2) at (f .count (u .0)))));
     }
 
-    pub flow-lose-data : (n : ℕ) → Flow P acked reached x y flight dacks → Flow P acked reached (lostOne x) y (without n flight) dacks
+    pub flow-lose-data : (n : ℕ) → Flow P acked reached x y flight dacks → Flow P acked reached (lostOne x) y (eraseAt n flight) dacks
     flow-lose-data n f = record {
       pending = f .pending;
       split = f .split;
@@ -117,7 +117,7 @@ module _ (r : Rules) where
       count = λ u. inr (count-lose (r .window) (f .count u));
     }
 
-    pub flow-lose-dack : (n : ℕ) → Flow P acked reached x y flight dacks → Flow P acked reached (lostOne x) y flight (without n dacks)
+    pub flow-lose-dack : (n : ℕ) → Flow P acked reached x y flight dacks → Flow P acked reached (lostOne x) y flight (eraseAt n dacks)
     flow-lose-dack n f = record {
       pending = f .pending;
       split = f .split;

@@ -6,7 +6,7 @@ use mathlib.Core.List.{List, [], _∷_, _++_, map, map-append, IsPrefix, append-
 use native.Mathlib.Omega.{arith}
 use native.Mathlib.Nat.{add-suc, suc-add}
 use lib.ListN.{length, length-append, getElem?}
-use Rattle.window.specs.Sides.{without}
+use Rattle.window.specs.Sides.{eraseAt}
 use Rattle.window.specs.Packets.{Payload, Payloads}
 use Rattle.window.proofs.Rising.{Rising, Chain}
 
@@ -29,10 +29,10 @@ pub limits-++ : (fs gs : List InFlight) → limits (fs ++ gs) ≡ limits fs ++ l
 limits-++ fs gs = map-append (λ (f : InFlight). f .limit) fs gs
 
 -- taking an element away before or after a map
-pub map-without : {A B : Type 0} (f : A → B) (n : ℕ) (l : List A) → map f (without n l) ≡ without n (map f l)
-map-without f n [] = refl
-map-without f zero (x ∷ l) = refl
-map-without f (suc n) (x ∷ l) = ap (λ t. f x ∷ t) (map-without f n l)
+pub map-eraseAt : {A B : Type 0} (f : A → B) (n : ℕ) (l : List A) → map f (eraseAt n l) ≡ eraseAt n (map f l)
+map-eraseAt f n [] = refl
+map-eraseAt f zero (x ∷ l) = refl
+map-eraseAt f (suc n) (x ∷ l) = ap (λ t. f x ∷ t) (map-eraseAt f n l)
 
 -- ---- what holds of every element
 abbrev pub All : {A : Type 0} → (A → Type 0) → List A → Type 0
@@ -43,10 +43,10 @@ pub all-++ : {A : Type 0} (P : A → Type 0) (xs ys : List A) → All P xs → A
 all-++ P [] ys h k = k
 all-++ P (x ∷ xs) ys h k = (h .0, all-++ P xs ys (h .1) k)
 
-pub all-without : {A : Type 0} (P : A → Type 0) (n : ℕ) (xs : List A) → All P xs → All P (without n xs)
-all-without P n [] h = h
-all-without P zero (x ∷ xs) h = h .1
-all-without P (suc n) (x ∷ xs) h = (h .0, all-without P n xs (h .1))
+pub all-eraseAt : {A : Type 0} (P : A → Type 0) (n : ℕ) (xs : List A) → All P xs → All P (eraseAt n xs)
+all-eraseAt P n [] h = h
+all-eraseAt P zero (x ∷ xs) h = h .1
+all-eraseAt P (suc n) (x ∷ xs) h = (h .0, all-eraseAt P n xs (h .1))
 
 pub all-map : {A : Type 0} (P Q : A → Type 0) (xs : List A) → ((x : A) → P x → Q x) → All P xs → All Q xs
 all-map P Q [] f h = h

@@ -9,11 +9,11 @@ use mathlib.Core.List.{List, [], _∷_, _++_, map, map-append, append-nil}
 use native.Mathlib.Omega.{arith}
 use lib.Dec.{T}
 use lib.ListN.{length, getElem?}
-use Rattle.window.specs.Sides.{Both, mirror, without}
-use Rattle.window.specs.Packets.{modulus, Payload, Payloads, Packet, dataPacket, countData, countDack, numbered}
+use Rattle.window.specs.Sides.{Both, mirror, eraseAt}
+use Rattle.window.specs.Packets.{modulus, Payload, Payloads, Packet, dataPdu, countData, countDack, numbered}
 use Rattle.window.specs.Ends.{Rules, End, firstSent, acceptWith, accept, sendAll}
 use Rattle.window.specs.Events.{loseAt, Drained}
-use Rattle.window.proofs.InFlight.{InFlight, map-without, batch}
+use Rattle.window.proofs.InFlight.{InFlight, map-eraseAt, batch}
 use Rattle.window.proofs.Marks.{Mark, dataMark, dackMark, dataOf, dacksOf, dataOf-++, dacksOf-++, marks, dataOf-marks, dacksOf-marks, packetOf, numbered-batch, no-data, no-dack, count-numbered, get-map, Taken, taken-at}
 use Rattle.window.proofs.Flow.{Flow, flow-weaken, flow-length, flow-accept, flow-accept-once, flow-send-all, flow-lose-data, flow-lose-dack}
 
@@ -82,7 +82,7 @@ module _ (r : Rules) where
     }
 
     accept-once : (p : Payload) → T (r .atOnce) → length (s .left .sender .queue) < r .window
-        → Invariant P Q (record { left = acceptWith (dataPacket ((s .left .sender .base + length (s .left .sender .queue)) % modulus) p ∷ []) p (s .left); right = s .right })
+        → Invariant P Q (record { left = acceptWith (dataPdu ((s .left .sender .base + length (s .left .sender .queue)) % modulus) p ∷ []) p (s .left); right = s .right })
     accept-once p t h = record {
       leftMarks = v .leftMarks ++ marks (f ∷ []);
       rightMarks = v .rightMarks;
@@ -90,7 +90,7 @@ module _ (r : Rules) where
       rightAcked = v .rightAcked;
       leftReached = suc (length (s .left .sender .accepted));
       rightReached = v .rightReached;
-      leftLine = (λ i. v .leftLine i ++ (dataPacket (number i) p ∷ [])) ∙ sym (map-append (packetOf (r .dackNumber)) (v .leftMarks) (marks (f ∷ [])));
+      leftLine = (λ i. v .leftLine i ++ (dataPdu (number i) p ∷ [])) ∙ sym (map-append (packetOf (r .dackNumber)) (v .leftMarks) (marks (f ∷ [])));
       rightLine = v .rightLine;
       leftFlow = rw (append-marks (v .leftMarks) (f ∷ [])) (flow-accept-once r p t h (v .leftFlow));
       rightFlow = rw (append-marks-dacks (v .leftMarks) (f ∷ [])) (v .rightFlow);
@@ -141,25 +141,25 @@ module _ (r : Rules) where
     lose-by : (n : ℕ) (o : Option Mark) → Taken n (v .leftMarks) o → Invariant P Q (loseAt n (Option·map (packetOf (r .dackNumber)) o) s)
     lose-by n none t = v
     lose-by n (some (dataMark f)) t = record {
-      leftMarks = without n (v .leftMarks);
+      leftMarks = eraseAt n (v .leftMarks);
       rightMarks = v .rightMarks;
       leftAcked = v .leftAcked;
       rightAcked = v .rightAcked;
       leftReached = v .leftReached;
       rightReached = v .rightReached;
-      leftLine = ap (without n) (v .leftLine) ∙ sym (map-without (packetOf (r .dackNumber)) n (v .leftMarks));
+      leftLine = ap (eraseAt n) (v .leftLine) ∙ sym (map-eraseAt (packetOf (r .dackNumber)) n (v .leftMarks));
       rightLine = v .rightLine;
       leftFlow = rw (t .1) (flow-lose-data r (t .0) (v .leftFlow));
       rightFlow = rw (t .2) (v .rightFlow);
     }
     lose-by n (some (dackMark k)) t = record {
-      leftMarks = without n (v .leftMarks);
+      leftMarks = eraseAt n (v .leftMarks);
       rightMarks = v .rightMarks;
       leftAcked = v .leftAcked;
       rightAcked = v .rightAcked;
       leftReached = v .leftReached;
       rightReached = v .rightReached;
-      leftLine = ap (without n) (v .leftLine) ∙ sym (map-without (packetOf (r .dackNumber)) n (v .leftMarks));
+      leftLine = ap (eraseAt n) (v .leftLine) ∙ sym (map-eraseAt (packetOf (r .dackNumber)) n (v .leftMarks));
       rightLine = v .rightLine;
       leftFlow = rw (t .1) (v .leftFlow);
       rightFlow = rw (t .2) (flow-lose-dack r (t .0) (v .rightFlow));

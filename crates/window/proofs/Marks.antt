@@ -8,8 +8,8 @@ use mathlib.Core.Option.{Option, none, some, Option·map}
 use mathlib.Core.List.{List, [], _∷_, _++_, map}
 use native.Mathlib.Omega.{arith}
 use lib.ListN.{length, getElem?}
-use Rattle.window.specs.Sides.{without}
-use Rattle.window.specs.Packets.{modulus, Payloads, Packet, dataPacket, dackPacket, countData, countDack, numbered}
+use Rattle.window.specs.Sides.{eraseAt}
+use Rattle.window.specs.Packets.{modulus, Payloads, Packet, dataPdu, dackPdu, countData, countDack, numbered}
 use Rattle.window.proofs.InFlight.{InFlight, batch}
 
 -- DATA in flight; or a DACK sent when so many payloads had been delivered
@@ -52,13 +52,13 @@ dacksOf-marks (f ∷ fs) = dacksOf-marks fs
 
 module _ (dackNumber : ℕ → ℕ) where
   abbrev pub packetOf : Mark → Packet
-  packetOf (dataMark f) = dataPacket (f .index % modulus) (f .payload)
-  packetOf (dackMark k) = dackPacket (dackNumber (k % modulus))
+  packetOf (dataMark f) = dataPdu (f .index % modulus) (f .payload)
+  packetOf (dackMark k) = dackPdu (dackNumber (k % modulus))
 
   -- "send all" puts the batch on the line
   pub numbered-batch : (c m x : ℕ) (q : Payloads) → x ≡ m % modulus → numbered x q ≡ map packetOf (marks (batch c m q))
   numbered-batch c m x [] h = refl
-  numbered-batch c m x (p ∷ q) h = λ i. dataPacket (h i) p ∷ numbered-batch c (suc m) ((x + 1) % modulus) q (omega arith) i
+  numbered-batch c m x (p ∷ q) h = λ i. dataPdu (h i) p ∷ numbered-batch c (suc m) ((x + 1) % modulus) q (omega arith) i
 
   -- a line without DATA, and one without DACKs
   pub no-data : (g : List Mark) → countData (map packetOf g) ≡ 0 → dataOf g ≡ []
@@ -83,8 +83,8 @@ get-map f (x ∷ l) (suc n) = get-map f l n
 -- what the loss of the n-th packet takes away, by that packet: one DATA, or one DACK, or nothing
 abbrev pub Taken : ℕ → List Mark → Option Mark → Type 0
 Taken n g none = Unit {0}
-Taken n g (some (dataMark f)) = (m : ℕ) × (dataOf (without n g) ≡ without m (dataOf g)) × (dacksOf (without n g) ≡ dacksOf g)
-Taken n g (some (dackMark k)) = (m : ℕ) × (dataOf (without n g) ≡ dataOf g) × (dacksOf (without n g) ≡ without m (dacksOf g))
+Taken n g (some (dataMark f)) = (m : ℕ) × (dataOf (eraseAt n g) ≡ eraseAt m (dataOf g)) × (dacksOf (eraseAt n g) ≡ dacksOf g)
+Taken n g (some (dackMark k)) = (m : ℕ) × (dataOf (eraseAt n g) ≡ dataOf g) × (dacksOf (eraseAt n g) ≡ eraseAt m (dacksOf g))
 
 taken-later : (k : Mark) (n : ℕ) (g : List Mark) (o : Option Mark) → Taken n g o → Taken (suc n) (k ∷ g) o
 taken-later k n g none t = tt

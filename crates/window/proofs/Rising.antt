@@ -6,7 +6,7 @@ use Prim.Native.Nat.{ℕ, zero, suc, _≤_}
 use mathlib.Core.Path.{_≡_, refl}
 use mathlib.Core.List.{List, [], _∷_, _++_}
 use native.Mathlib.Omega.{arith}
-use Rattle.window.specs.Sides.{without}
+use Rattle.window.specs.Sides.{eraseAt}
 
 abbrev pub Rising : ℕ → List ℕ → ℕ → Type 0
 Rising lo [] hi = lo ≤ hi
@@ -28,10 +28,10 @@ pub rising-++ : (lo : ℕ) (xs : List ℕ) (m : ℕ) (ys : List ℕ) (hi : ℕ) 
 rising-++ lo [] m ys hi r s = rising-lower lo m ys hi r s
 rising-++ lo (x ∷ xs) m ys hi r s = (r .0, rising-++ x xs m ys hi (r .1) s)
 
-pub rising-without : (n lo : ℕ) (xs : List ℕ) (hi : ℕ) → Rising lo xs hi → Rising lo (without n xs) hi
-rising-without n lo [] hi r = r
-rising-without zero lo (x ∷ xs) hi r = rising-lower lo x xs hi (r .0) (r .1)
-rising-without (suc n) lo (x ∷ xs) hi r = (r .0, rising-without n x xs hi (r .1))
+pub rising-eraseAt : (n lo : ℕ) (xs : List ℕ) (hi : ℕ) → Rising lo xs hi → Rising lo (eraseAt n xs) hi
+rising-eraseAt n lo [] hi r = r
+rising-eraseAt zero lo (x ∷ xs) hi r = rising-lower lo x xs hi (r .0) (r .1)
+rising-eraseAt (suc n) lo (x ∷ xs) hi r = (r .0, rising-eraseAt n x xs hi (r .1))
 
 -- one number more, at the end
 pub rising-snoc : (lo : ℕ) (xs : List ℕ) (m n : ℕ) → m ≤ n → Rising lo xs m → Rising lo (xs ++ (n ∷ [])) n

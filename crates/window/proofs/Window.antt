@@ -15,10 +15,10 @@ use mathlib.Core.Option.{some}
 use mathlib.Core.List.{List, [], _∷_, _++_, append-assoc}
 use native.Mathlib.Omega.{arith}
 use lib.ListN.{length, length-append, getElem?}
-use Rattle.window.specs.Sides.{without}
+use Rattle.window.specs.Sides.{eraseAt}
 use Rattle.window.specs.Packets.{modulus, Payload, Payloads}
-use Rattle.window.proofs.Rising.{Rising, rising-lower, rising-upper, rising-le, rising-++, rising-without, rising-snoc}
-use Rattle.window.proofs.InFlight.{InFlight, limits, limits-++, map-without, All, all-++, all-without, all-map, get-++, get-seam, batch, batch-rising}
+use Rattle.window.proofs.Rising.{Rising, rising-lower, rising-upper, rising-le, rising-++, rising-eraseAt, rising-snoc}
+use Rattle.window.proofs.InFlight.{InFlight, limits, limits-++, map-eraseAt, All, all-++, all-eraseAt, all-map, get-++, get-seam, batch, batch-rising}
 
 module _ (W : ℕ) where
   -- a DATA in flight carries the payload at its index, and its limit is above the index by 1 to W
@@ -57,16 +57,16 @@ module _ (W : ℕ) where
     window-acknowledge v = record { acks = v .acks .1; ahead = v .ahead; room = omega (arith, v .acks .0, v .room); fits = v .fits }
 
     -- losses leave gaps and no disorder
-    pub window-lose-data : (n : ℕ) {flight : List InFlight} {dacks : List ℕ} → InWindow accepted base received flight dacks → InWindow accepted base received (without n flight) dacks
+    pub window-lose-data : (n : ℕ) {flight : List InFlight} {dacks : List ℕ} → InWindow accepted base received flight dacks → InWindow accepted base received (eraseAt n flight) dacks
     window-lose-data n {flight} v = record {
       acks = v .acks;
-      ahead = rw (map-without (λ (f : InFlight). f .limit) n flight) (rising-without n received (limits flight) (length accepted) (v .ahead));
+      ahead = rw (map-eraseAt (λ (f : InFlight). f .limit) n flight) (rising-eraseAt n received (limits flight) (length accepted) (v .ahead));
       room = v .room;
-      fits = all-without (Fits accepted) n flight (v .fits);
+      fits = all-eraseAt (Fits accepted) n flight (v .fits);
     }
 
-    pub window-lose-dack : (n : ℕ) {flight : List InFlight} {dacks : List ℕ} → InWindow accepted base received flight dacks → InWindow accepted base received flight (without n dacks)
-    window-lose-dack n {dacks = dacks} v = record { acks = rising-without n base dacks received (v .acks); ahead = v .ahead; room = v .room; fits = v .fits }
+    pub window-lose-dack : (n : ℕ) {flight : List InFlight} {dacks : List ℕ} → InWindow accepted base received flight dacks → InWindow accepted base received flight (eraseAt n dacks)
+    window-lose-dack n {dacks = dacks} v = record { acks = rising-eraseAt n base dacks received (v .acks); ahead = v .ahead; room = v .room; fits = v .fits }
 
     module _ {flight : List InFlight} {dacks : List ℕ} (w : W < modulus) where
       -- equal residues mean equal indices

@@ -7,7 +7,7 @@ use mathlib.Core.Bool.{Bool, true, false, cond, _&&_}
 use mathlib.Core.List.{List, [], _∷_, _++_}
 use lib.ListN.{length, drop}
 use lib.Dec.{leb}
-use Rattle.window.specs.Packets.{modulus, Payload, Payloads, Packet, dataPacket, dackPacket, countData, numbered}
+use Rattle.window.specs.Packets.{modulus, advance, Payload, Payloads, Packet, dataPdu, dackPdu, countData, numbered}
 
 pub record Rules : Type 0 where
   -- payloads that a queue holds
@@ -16,14 +16,14 @@ pub record Rules : Type 0 where
   pub atOnce : Bool
   -- the number that a DACK carries where this one is expected
   pub dackNumber : ℕ → ℕ
-  -- how far a DACK's number (first) is from the base (second)
+  -- how many of the payloads from the base (first) on a DACK with the second number acknowledges
   pub distance : ℕ → ℕ → ℕ
 
 -- the window is below the modulus, and a DACK's distance is how many payloads it acknowledges: of the whole numbers b (acknowledged before)
 -- and k (acknowledged now) the ends know only the residues, and less than the modulus lies between them
 pub record Lawful (r : Rules) : Type 0 where
   pub below : r .window < modulus
-  pub distance : (b k : ℕ) → b ≤ k → k < b + modulus → r .distance (r .dackNumber (k % modulus)) (b % modulus) ≡ k - b
+  pub distance : (b k : ℕ) → b ≤ k → k < b + modulus → r .distance (b % modulus) (r .dackNumber (k % modulus)) ≡ k - b
 
 -- the sending half of an end
 pub record Sender : Type 0 where
@@ -63,20 +63,20 @@ lostOne x = record { queue = x .queue; base = x .base; accepted = x .accepted; s
 
 -- without the n oldest payloads of the queue
 abbrev pub freed : ℕ → Sender → Sender
-freed n x = record { queue = drop n (x .queue); base = (x .base + n) % modulus; accepted = x .accepted; sent = x .sent; lost = x .lost }
+freed n x = record { queue = drop n (x .queue); base = advance (x .base) n; accepted = x .accepted; sent = x .sent; lost = x .lost }
 
 -- whether a DACK of this distance acknowledges some of the queue
 abbrev pub acknowledges : ℕ → Payloads → Bool
 acknowledges d q = leb 1 d && leb d (length q)
 
 -- "distance 1 up to the queue's length removes that many oldest"; another distance none
-abbrev pub acknowledged : ℕ → Sender → Sender
-acknowledged d x = cond (acknowledges d (x .queue)) (freed d x) x
+abbrev pub applyDack : ℕ → Sender → Sender
+applyDack d x = cond (acknowledges d (x .queue)) (freed d x) x
 
 -- ---- the receiving half
 -- the expected payload is delivered, and the number counts on
 abbrev pub delivering : Payload → Receiver → Receiver
-delivering p y = record { expected = (y .expected + 1) % modulus; delivered = y .delivered ++ (p ∷ []) }
+delivering p y = record { expected = advance (y .expected) 1; delivered = y .delivered ++ (p ∷ []) }
 
 -- ---- an end
 abbrev pub withLine : List Packet → End → End
@@ -91,7 +91,7 @@ sending ks e = record { sender = counted (countData ks) (e .sender); receiver = 
 
 -- the packets that an accepted payload puts on the line: none, or itself with its slot's number
 abbrev pub firstSent : Bool → ℕ → Payload → List Packet
-firstSent true x p = dataPacket x p ∷ []
+firstSent true x p = dataPdu x p ∷ []
 firstSent false x p = []
 
 abbrev pub acceptWith : List Packet → Payload → End → End
@@ -100,7 +100,7 @@ acceptWith ks p e = record { sender = queued p (countData ks) (e .sender); recei
 module _ (r : Rules) where
   -- "queue"
   abbrev pub accept : Payload → End → End
-  accept p e = acceptWith (firstSent (r .atOnce) ((e .sender .base + length (e .sender .queue)) % modulus) p) p e
+  accept p e = acceptWith (firstSent (r .atOnce) (advance (e .sender .base) (length (e .sender .queue))) p) p e
 
   -- "send all: every queued payload as DATA, oldest first, none removed"
   abbrev pub sendAll : End → End
@@ -111,9 +111,9 @@ module _ (r : Rules) where
   deliver p e = record {
     sender = e .sender;
     receiver = delivering p (e .receiver);
-    line = e .line ++ (dackPacket (r .dackNumber ((e .receiver .expected + 1) % modulus)) ∷ []);
+    line = e .line ++ (dackPdu (r .dackNumber (advance (e .receiver .expected) 1)) ∷ []);
   }
 
   -- "judge", another number: nothing is delivered; a DACK with the number expected still
   abbrev pub repeatDack : End → End
-  repeatDack e = withLine (e .line ++ (dackPacket (r .dackNumber (e .receiver .expected)) ∷ [])) e
+  repeatDack e = withLine (e .line ++ (dackPdu (r .dackNumber (e .receiver .expected)) ∷ [])) e

@@ -6,9 +6,9 @@ use mathlib.Core.Option.{Option, none, some}
 use mathlib.Core.List.{List, [], _∷_}
 use lib.ListN.{length, getElem?}
 use lib.Dec.{ltb, eqb}
-use Rattle.window.specs.Sides.{Side, left, right, Both, mirror, without}
-use Rattle.window.specs.Packets.{Payload, Packet, dataPacket, dackPacket, countData, countDack}
-use Rattle.window.specs.Ends.{Rules, End, lostOne, acknowledged, withLine, withSender, accept, sendAll, deliver, repeatDack}
+use Rattle.window.specs.Sides.{Side, left, right, Both, mirror, eraseAt}
+use Rattle.window.specs.Packets.{Payload, Packet, dataPdu, dackPdu, countData, countDack}
+use Rattle.window.specs.Ends.{Rules, End, lostOne, applyDack, withLine, withSender, accept, sendAll, deliver, repeatDack}
 
 -- what happens at an end. The Bool says whether the call passes the refusals that go by what is lent to it (a reply buffer that is too
 -- short, a payload that is too long)
@@ -36,20 +36,20 @@ start = record { left = fresh; right = fresh }
 -- a lost DATA counts for its sender, a lost DACK for the end that it was sent to
 abbrev pub loseAt : ℕ → Option Packet → Both End → Both End
 loseAt n none s = s
-loseAt n (some (dataPacket x p)) s = record { left = withSender (lostOne (s .left .sender)) (withLine (without n (s .left .line)) (s .left)); right = s .right }
-loseAt n (some (dackPacket x)) s = record { left = withLine (without n (s .left .line)) (s .left); right = withSender (lostOne (s .right .sender)) (s .right) }
+loseAt n (some (dataPdu x p)) s = record { left = withSender (lostOne (s .left .sender)) (withLine (eraseAt n (s .left .line)) (s .left)); right = s .right }
+loseAt n (some (dackPdu x)) s = record { left = withLine (eraseAt n (s .left .line)) (s .left); right = withSender (lostOne (s .right .sender)) (s .right) }
 
 module _ (r : Rules) where
   -- the front of the right end's line arrives at the left end; refused, it is lost
   abbrev pub arrive : Bool → List Packet → Both End → Both End
   arrive ok [] s = s
-  arrive ok (dataPacket x p ∷ ks) s =
+  arrive ok (dataPdu x p ∷ ks) s =
       cond ok
       (record { left = cond (eqb x (s .left .receiver .expected)) (deliver r p (s .left)) (repeatDack r (s .left)); right = withLine ks (s .right) })
       (record { left = s .left; right = withSender (lostOne (s .right .sender)) (withLine ks (s .right)) })
-  arrive ok (dackPacket x ∷ ks) s =
+  arrive ok (dackPdu x ∷ ks) s =
       cond ok
-      (record { left = withSender (acknowledged (r .distance x (s .left .sender .base)) (s .left .sender)) (s .left); right = withLine ks (s .right) })
+      (record { left = withSender (applyDack (r .distance (s .left .sender .base) x) (s .left .sender)) (s .left); right = withLine ks (s .right) })
       (record { left = withSender (lostOne (s .left .sender)) (s .left); right = withLine ks (s .right) })
 
   -- an event at the left end

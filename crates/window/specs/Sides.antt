@@ -17,7 +17,7 @@ abbrev pub mirror : {E : Type 0} → Both E → Both E
 mirror s = record { left = s .right; right = s .left }
 
 -- a list without its element at index n; the same list where it has none there
-abbrev pub without : {A : Type 0} → ℕ → List A → List A
-without n [] = []
-without zero (x ∷ xs) = xs
-without (suc n) (x ∷ xs) = x ∷ without n xs
+abbrev pub eraseAt : {A : Type 0} → ℕ → List A → List A
+eraseAt n [] = []
+eraseAt zero (x ∷ xs) = xs
+eraseAt (suc n) (x ∷ xs) = x ∷ eraseAt n xs

@@ -1,0 +1,2 @@
+pub mod FreeSlots
+pub mod Cases
