@@ -1,0 +1,3 @@
+pub mod World
+pub mod History
+pub mod Demand3
