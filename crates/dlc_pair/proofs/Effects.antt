@@ -17,7 +17,7 @@ use Rattle.dlc.specs.Answers.{done, tooLong, notOpen, queueFull, noEntry, other
 use Rattle.dlc.specs.Model.{Model}
 use Rattle.dlc.specs.Events.{Effect, effect, refuse, expectNext, dackOf, judged, dataStep, stateOf, without, dackStep, timerStep, startStep, withPayload, queued, isOpen, packetStep, startOf, timerOf, payloadOf, arrivalOf}
 use Rattle.window.specs.Packets.{dataPdu, dackPdu}
-use Rattle.window.specs.Ends.{Rules, Lawful, End as Peer, Sender, freed, lostOne, acknowledges, withSender, accept, sendAll, deliver, repeatDack}
+use Rattle.window.specs.Ends.{Rules, Lawful, End as Peer, Sender, freed, lostOne, acknowledges, withSender, accept, sendAll, takeData}
 use Rattle.window.proofs.InFlight.{all-++}
 use Rattle.dlc_pair.specs.World.{Octets, Packets}
 use Rattle.dlc_pair.proofs.Codec.{encode, Sound, Short, short-drop, kindOf-data, kindOf-dack}
@@ -42,11 +42,9 @@ module _ (a : Peer) (f : Fits a) where
   pub fits-sendAll : Fits (sendAll rules a)
   fits-sendAll = record { base = f .base; expected = f .expected; short = f .short; few = f .few }
 
-  pub fits-deliver : (p : Octets) → Fits (deliver rules p a)
-  fits-deliver p = record { base = f .base; expected = omega arith; short = f .short; few = f .few }
-
-  pub fits-repeatDack : Fits (repeatDack rules a)
-  fits-repeatDack = record { base = f .base; expected = f .expected; short = f .short; few = f .few }
+  pub fits-takeData : (hit : Bool) (p : Octets) → Fits (takeData rules hit p a)
+  fits-takeData true p = record { base = f .base; expected = omega arith; short = f .short; few = f .few }
+  fits-takeData false p = record { base = f .base; expected = f .expected; short = f .short; few = f .few }
 
   pub fits-lostOne : Fits (withSender (lostOne (a .sender)) a)
   fits-lostOne = record { base = f .base; expected = f .expected; short = f .short; few = f .few }

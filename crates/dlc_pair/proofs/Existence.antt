@@ -21,14 +21,14 @@ use Rattle.dlc.specs.Events.{Effect, refuse, stateOf, startOf, timerOf, payload
 use Rattle.dlc.specs.Calls.{answerOf, Meets}
 use Rattle.window.specs.Sides.{Side, left, right, Both, mirror}
 use Rattle.window.specs.Packets.{Packet, dataPdu, dackPdu}
-use Rattle.window.specs.Ends.{End as Peer, freed, acknowledges, withSender, accept, deliver}
+use Rattle.window.specs.Ends.{End as Peer, freed, acknowledges, withSender, accept, takeData}
 use Rattle.window.specs.Events.{fresh}
 use Rattle.window.proofs.InFlight.{All, all-++}
 use Rattle.dlc_pair.specs.World.{Octets, Packets, World, initial}
 use Rattle.dlc_pair.specs.History.{Act, payload, timer, start, arrival, loss, Event, Reply, GivenFront, Given, GivenAt, History, final}
 use Rattle.dlc_pair.proofs.Codec.{encode, Sound, Short}
 use Rattle.dlc_pair.proofs.Relation.{modelOf, Fits, Follows, BothFollow, follow-mirror}
-use Rattle.dlc_pair.proofs.Effects.{rules, fits-accept, fits-deliver, fits-freed, startEffect, startOf-open, payloadEffect, payloadOf-open, withPayload-accept, timerEffect, timerOf-open, dataEffect, arrivalOf-data, dackEffect, arrivalOf-dack}
+use Rattle.dlc_pair.proofs.Effects.{rules, fits-accept, fits-takeData, fits-freed, startEffect, startOf-open, payloadEffect, payloadOf-open, withPayload-accept, timerEffect, timerOf-open, dataEffect, arrivalOf-data, dackEffect, arrivalOf-dack}
 use Rattle.dlc_pair.proofs.Steps.{tooShort}
 use Rattle.dlc_pair.proofs.Runs.{stepAt-follows, run-follows, follow-initial}
 
@@ -148,7 +148,7 @@ module _ (a : Peer) (f : Fits a) where
   data-possible : (p : Octets) (short hit : Bool) → Possible (modelOf a) (dataEffect short hit (modelOf a))
   data-possible p true hit = stays shortReply refl
   data-possible p false false = moves a f refl refl
-  data-possible p false true = moves (deliver rules p a) (fits-deliver a f p) refl refl
+  data-possible p false true = moves (takeData rules true p a) (fits-takeData a f true p) refl refl
 
   dack-possible : (d : ℕ) (short frees : Bool) → Possible (modelOf a) (dackEffect short frees (modelOf a) d)
   dack-possible d true frees = stays shortReply refl

@@ -19,7 +19,7 @@ use Rattle.dlc.specs.Events.{Effect, refuse, startOf, timerOf, payloadOf, arriv
 use Rattle.dlc.specs.Calls.{Meets, deliveredPart}
 use Rattle.window.specs.Sides.{Both, eraseAt}
 use Rattle.window.specs.Packets.{Packet, dataPdu, dackPdu, numbered}
-use Rattle.window.specs.Ends.{End as Peer, freed, lostOne, acknowledges, withLine, withSender, accept, sendAll, deliver, repeatDack}
+use Rattle.window.specs.Ends.{End as Peer, freed, lostOne, acknowledges, withLine, withSender, accept, sendAll, takeData}
 use Rattle.window.specs.Events.{Act as PacketAct, offer, timeout, receive, lose, loseAt, arrive, step}
 use Rattle.window.proofs.InFlight.{All, all-eraseAt, map-eraseAt}
 use Rattle.window.proofs.Marks.{get-map}
@@ -27,7 +27,7 @@ use Rattle.dlc_pair.specs.World.{Octets, Packets, isData, isDack, one, W
 use Rattle.dlc_pair.specs.History.{Act, payload, timer, start, arrival, loss, GivenFront, Given, called, relined, acceptedBy, deliveredBy, lostBy, arrived, lostAt, after}
 use Rattle.dlc_pair.proofs.Codec.{encode, Sound, dataBit, dackBit, isData-encode, isDack-encode, dataPackets-numbered, sound-numbered}
 use Rattle.dlc_pair.proofs.Relation.{modelOf, Fits, Follows, BothFollow, Becomes, follows-called, becomes-same, losing, follows-relined}
-use Rattle.dlc_pair.proofs.Effects.{rules, fits-accept, fits-sendAll, fits-deliver, fits-repeatDack, fits-lostOne, fits-freed, startEffect, startOf-open, payloadEffect, payloadOf-open, ltb-not-leb, withPayload-accept, timerEffect, timerOf-open, dataEffect, arrivalOf-data, dackEffect, arrivalOf-dack}
+use Rattle.dlc_pair.proofs.Effects.{rules, fits-accept, fits-sendAll, fits-takeData, fits-lostOne, fits-freed, startEffect, startOf-open, payloadEffect, payloadOf-open, ltb-not-leb, withPayload-accept, timerEffect, timerOf-open, dataEffect, arrivalOf-data, dackEffect, arrivalOf-dack}
 
 -- a reply buffer that every call refuses
 abbrev pub tooShort : Octets → Bool
@@ -132,7 +132,7 @@ module _ {w : World} {s : Both Peer} (f : BothFollow w s) {before later : Octets
         right = relined (map encode ks) (lostBy (isData (encode (dataPdu x p))) (r .answer)) (w .right);
       })
       (cond (not short)
-      (record { left = cond hit (deliver rules p (s .left)) (repeatDack rules (s .left)); right = withLine ks (s .right) })
+      (record { left = takeData rules hit p (s .left); right = withLine ks (s .right) })
       (record { left = s .left; right = withSender (lostOne (s .right .sender)) (withLine ks (s .right)) }))
   data-follows x p ks h hs true hit m =
       arrival-follows (dataPdu x p) ks h hs m (suc (s .right .sender .lost)) (becomes-same shortReply refl (λ e. omega (arith, e)) (f .left .fits) refl refl refl) (omega arith)
@@ -147,7 +147,7 @@ module _ {w : World} {s : Both Peer} (f : BothFollow w s) {before later : Octets
         delivers = refl;
         sent = sym (add-zero (s .left .sender .sent));
         loses = sym (add-zero (s .left .sender .lost));
-        fits = fits-deliver (s .left) (f .left .fits) p;
+        fits = fits-takeData (s .left) (f .left .fits) true p;
         sound = (omega arith, tt);
       }) (omega arith)
   data-follows x p ks h hs false false m =
@@ -161,7 +161,7 @@ module _ {w : World} {s : Both Peer} (f : BothFollow w s) {before later : Octets
         delivers = sym (append-nil (s .left .receiver .delivered));
         sent = sym (add-zero (s .left .sender .sent));
         loses = sym (add-zero (s .left .sender .lost));
-        fits = fits-repeatDack (s .left) (f .left .fits);
+        fits = fits-takeData (s .left) (f .left .fits) false p;
         sound = (f .left .fits .expected, tt);
       }) (omega arith)
 

@@ -14,11 +14,6 @@ use Rattle.window.specs.Packets.{Payload, Payloads}
 use Rattle.window.proofs.Rising.{Chain, chain-raise, chain-snoc, lastOr, lastOr-snoc}
 use Rattle.window.proofs.InFlight.{InFlight, indices, indices-++, batch, batch-chain}
 
--- by cases on one of two
-pub either-way : {A B C : Type 0} → (A → C) → (B → C) → A ⊎ B → C
-either-way f g (inl a) = f a
-either-way f g (inr b) = g b
-
 -- with no DATA in flight, the last DACK on the way (or the base) acknowledges all that was sent
 abbrev pub Answered : List InFlight → ℕ → ℕ → Type 0
 Answered [] reached z = reached ≤ z
@@ -37,12 +32,62 @@ answered-end : (fs : List InFlight) (u reached base : ℕ) (dacks : List ℕ) �
 answered-end [] u reached base dacks h = rw (lastOr-snoc base dacks u) h
 answered-end (f ∷ fs) u reached base dacks h = tt
 
+-- what is in flight accounts for every payload sent at least once: the indices on the line lead from the one expected to `reached` without a
+-- gap, and where no DATA is left in flight the last DACK acknowledges all of them
+pub record Trail (accepted base received reached : ℕ) (flight : List InFlight) (dacks : List ℕ) : Type 0 where
+  pub some : reached ≤ accepted
+  pub chain : Chain received (indices flight) reached
+  pub last : Answered flight reached (lastOr base dacks)
+
+module _ {accepted base received reached : ℕ} {flight : List InFlight} {dacks : List ℕ} where
+  pub trail-accept : Trail accepted base received reached flight dacks → Trail (suc accepted) base received reached flight dacks
+  trail-accept t = record { some = omega (arith, t .some); chain = t .chain; last = t .last }
+
+  -- accepted and sent at once
+  pub trail-send-one : (p : Payload) → reached ≡ accepted → Trail accepted base received reached flight dacks
+      → Trail (suc accepted) base received (suc accepted) (flight ++ (record { index = accepted; limit = suc accepted; payload = p } ∷ [])) dacks
+  trail-send-one p e t =
+      let f : InFlight = record { index = accepted; limit = suc accepted; payload = p } in
+      record {
+        some = omega arith;
+        chain = rw (indices-++ flight (f ∷ []), ← e) (chain-snoc received (indices flight) reached (t .chain));
+        last = answered-snoc flight f (suc accepted) (lastOr base dacks);
+      }
+
+  pub trail-deliver : {f : InFlight} → f .index ≡ received → Trail accepted base received reached (f ∷ flight) dacks
+      → Trail accepted base (suc received) reached flight (dacks ++ (suc received ∷ []))
+  trail-deliver {f} h t =
+      let c : Chain (suc received) (indices flight) reached = chain-raise (suc (f .index)) (suc received) (indices flight) reached (omega (arith, h)) (t .chain .1) in
+      record { some = t .some; chain = c; last = answered-end flight (suc received) reached base dacks c }
+
+  pub trail-repeat : {f : InFlight} → f .index ≢ received → Trail accepted base received reached (f ∷ flight) dacks
+      → Trail accepted base received reached flight (dacks ++ (received ∷ []))
+  trail-repeat {f} h t =
+      let c : Chain received (indices flight) reached = chain-raise (suc (f .index)) received (indices flight) reached (omega (arith, h, t .chain .0)) (t .chain .1) in
+      record { some = t .some; chain = c; last = answered-end flight received reached base dacks c }
+
+pub trail-acknowledge : {accepted base received reached k : ℕ} (flight : List InFlight) {dacks : List ℕ} → Trail accepted base received reached flight (k ∷ dacks)
+    → Trail accepted k received reached flight dacks
+trail-acknowledge [] t = record { some = t .some; chain = t .chain; last = t .last }
+trail-acknowledge (f ∷ flight) t = record { some = t .some; chain = t .chain; last = tt }
+
+-- "send all" with nothing in flight and no DACK on the way begins a trail
+pub trail-send-all : {accepted base received : ℕ} (q : Payloads) → base ≤ received → accepted ≡ base + length q
+    → Trail accepted base received accepted (batch accepted base q) []
+trail-send-all {accepted} {base} {received} q b e = record {
+  some = omega arith;
+  chain = chain-raise base received (indices (batch accepted base q)) accepted b (rw e (batch-chain (base + length q) base q));
+  last = answered-batch accepted base base q (omega arith) (omega arith);
+}
+
+-- nothing left in flight and no DACK on the way: all is acknowledged
+pub trail-end : {accepted base received reached : ℕ} → Trail accepted base received reached [] [] → reached ≤ base
+trail-end t = t .last
+
 module _ (W : ℕ) where
   pub record Clean (accepted base received reached : ℕ) (flight : List InFlight) (dacks : List ℕ) (sent lost : ℕ) : Type 0 where
     pub sum : sent ≤ reached + W * lost
-    pub some : reached ≤ accepted
-    pub chain : Chain received (indices flight) reached
-    pub last : Answered flight reached (lastOr base dacks)
+    pub trail : Trail accepted base received reached flight dacks
 
   abbrev pub Dirty : ℕ → ℕ → ℕ → Type 0
   Dirty accepted sent lost = sent + W ≤ accepted + W * lost
@@ -53,62 +98,41 @@ module _ (W : ℕ) where
   module _ {accepted base received reached : ℕ} {flight : List InFlight} {dacks : List ℕ} {sent lost : ℕ} where
     -- what the count is for
     pub count-bound : Count accepted base received reached flight dacks sent lost → sent ≤ accepted + W * lost
-    count-bound (inl c) = omega (arith, c .sum, c .some)
+    count-bound (inl c) = omega (arith, c .sum, c .trail .some)
     count-bound (inr d) = omega arith
 
-    -- a packet is lost: whatever is in flight now, and whatever is acknowledged
+    -- a packet is lost, whatever is in flight
     pub count-lose : Count accepted base received reached flight dacks sent lost → Dirty accepted sent (suc lost)
-    count-lose (inl c) = omega (arith, c .sum, c .some)
+    count-lose (inl c) = omega (arith, c .sum, c .trail .some)
     count-lose (inr d) = omega arith
 
     pub count-accept : Count accepted base received reached flight dacks sent lost → Count (suc accepted) base received reached flight dacks sent lost
-    count-accept (inl c) = inl (record { sum = c .sum; some = omega (arith, c .some); chain = c .chain; last = c .last })
+    count-accept (inl c) = inl (record { sum = c .sum; trail = trail-accept (c .trail) })
     count-accept (inr d) = inr (omega arith)
 
-    -- accepted and sent at once
     pub count-send-one : (p : Payload) → reached ≡ accepted → Count accepted base received reached flight dacks sent lost
         → Count (suc accepted) base received (suc accepted) (flight ++ (record { index = accepted; limit = suc accepted; payload = p } ∷ [])) dacks (suc sent) lost
-    count-send-one p t (inl c) =
-        let f : InFlight = record { index = accepted; limit = suc accepted; payload = p } in
-        inl (record {
-          sum = omega (arith, c .sum);
-          some = omega arith;
-          chain = rw (indices-++ flight (f ∷ []), ← t) (chain-snoc received (indices flight) reached (c .chain));
-          last = answered-snoc flight f (suc accepted) (lastOr base dacks);
-        })
-    count-send-one p t (inr d) = inr (omega arith)
+    count-send-one p e (inl c) = inl (record { sum = omega (arith, c .sum); trail = trail-send-one p e (c .trail) })
+    count-send-one p e (inr d) = inr (omega arith)
 
   module _ {accepted base received reached : ℕ} {flight : List InFlight} {dacks : List ℕ} {sent lost : ℕ} where
     pub count-deliver : {f : InFlight} → f .index ≡ received → Count accepted base received reached (f ∷ flight) dacks sent lost
         → Count accepted base (suc received) reached flight (dacks ++ (suc received ∷ [])) sent lost
-    count-deliver {f} h (inl c) =
-        let t : Chain (suc received) (indices flight) reached = chain-raise (suc (f .index)) (suc received) (indices flight) reached (omega (arith, h)) (c .chain .1) in
-        inl (record { sum = c .sum; some = c .some; chain = t; last = answered-end flight (suc received) reached base dacks t })
+    count-deliver h (inl c) = inl (record { sum = c .sum; trail = trail-deliver h (c .trail) })
     count-deliver h (inr d) = inr d
 
     pub count-repeat : {f : InFlight} → f .index ≢ received → Count accepted base received reached (f ∷ flight) dacks sent lost
         → Count accepted base received reached flight (dacks ++ (received ∷ [])) sent lost
-    count-repeat {f} h (inl c) =
-        let t : Chain received (indices flight) reached = chain-raise (suc (f .index)) received (indices flight) reached (omega (arith, h, c .chain .0)) (c .chain .1) in
-        inl (record { sum = c .sum; some = c .some; chain = t; last = answered-end flight received reached base dacks t })
+    count-repeat h (inl c) = inl (record { sum = c .sum; trail = trail-repeat h (c .trail) })
     count-repeat h (inr d) = inr d
 
-  pub count-acknowledge : {accepted base received reached k : ℕ} (flight : List InFlight) {dacks : List ℕ} {sent lost : ℕ}
-      → Count accepted base received reached flight (k ∷ dacks) sent lost
-      → Count accepted k received reached flight dacks sent lost
-  count-acknowledge [] (inl c) = inl (record { sum = c .sum; some = c .some; chain = c .chain; last = c .last })
-  count-acknowledge (f ∷ flight) (inl c) = inl (record { sum = c .sum; some = c .some; chain = c .chain; last = tt })
-  count-acknowledge flight (inr d) = inr d
+    pub count-acknowledge : {k : ℕ} → Count accepted base received reached flight (k ∷ dacks) sent lost → Count accepted k received reached flight dacks sent lost
+    count-acknowledge (inl c) = inl (record { sum = c .sum; trail = trail-acknowledge flight (c .trail) })
+    count-acknowledge (inr d) = inr d
 
   -- "send all" with nothing in flight and no DACK on the way: all that was sent is acknowledged or paid for, and the count is clean again
   pub count-send-all : {accepted base received reached sent lost : ℕ} (q : Payloads) → base ≤ received → accepted ≡ base + length q → length q ≤ W
       → Count accepted base received reached [] [] sent lost
       → Clean accepted base received accepted (batch accepted base q) [] (sent + length q) lost
-  count-send-all {accepted} {base} {received} {reached} {sent} {lost} q b e w c = record {
-    sum = either-way
-        (λ (c : Clean accepted base received reached [] [] sent lost). omega (arith, c .sum, c .last))
-        (λ (d : Dirty accepted sent lost). omega (arith, d)) c;
-    some = omega arith;
-    chain = chain-raise base received (indices (batch accepted base q)) accepted b (rw e (batch-chain (base + length q) base q));
-    last = answered-batch accepted base base q (omega arith) (omega arith);
-  }
+  count-send-all q b e w (inl c) = record { sum = omega (arith, c .sum, trail-end (c .trail)); trail = trail-send-all q b e }
+  count-send-all q b e w (inr d) = record { sum = omega arith; trail = trail-send-all q b e }

@@ -2,7 +2,8 @@
 -- and the count. Assumes nothing.
 --
 -- What the proof knows beside the state stands as a parameter: `acked` are the payloads that left the queue, `reached` is how many were sent
--- at least once, and P says that the sender's timer has waited so far.
+-- at least once. What holds only on a condition stands under it: the count where the sender's timer has waited, the trail where no packet of
+-- this direction was lost since the queue was last sent with the line drained.
 use Prim.Native.Nat.{ℕ, zero, suc, _+_, _-_, _*_, _%_, _≤_, _<_, min}
 use mathlib.Core.Path.{_≡_, refl, sym, ap, subst, _∙_}
 use mathlib.Core.Logic.{_⊎_, inl, inr, _≢_}
@@ -11,18 +12,31 @@ use mathlib.Core.Option.{some}
 use mathlib.Core.List.{List, [], _∷_, _++_, append-assoc}
 use native.Mathlib.Omega.{arith}
 use native.Mathlib.Nat.{add-zero}
-use lib.Dec.{T, T-not}
+use lib.Dec.{T, T-not, eqb}
+use borrow.Author.Tests.{eqb-true, eqb-false}
 use lib.ListN.{length, length-append, length-take, take, drop, take-append-drop, getElem?}
 use Rattle.window.specs.Sides.{eraseAt}
 use Rattle.window.specs.Packets.{modulus, Payload, Payloads}
-use Rattle.window.specs.Ends.{Rules, Sender, Receiver, queued, counted, lostOne, freed, delivering}
+use Rattle.window.specs.Ends.{Rules, Sender, Receiver, queued, counted, lostOne, freed, delivering, judged}
 use Rattle.window.proofs.Rising.{rising-le}
 use Rattle.window.proofs.InFlight.{InFlight, batch, prefix-snoc}
 use Rattle.window.proofs.Window.{InWindow, window-deliver, window-repeat, window-acknowledge, window-lose-data, window-lose-dack, window-agrees, window-dack, window-accept, window-send-one, window-send-all}
-use Rattle.window.proofs.Count.{Count, count-bound, count-lose, count-accept, count-send-one, count-deliver, count-repeat, count-acknowledge, count-send-all}
+use Rattle.window.proofs.Count.{Trail, trail-accept, trail-send-one, trail-deliver, trail-repeat, trail-acknowledge, trail-send-all, Count, count-bound, count-lose, count-accept, count-send-one, count-deliver, count-repeat, count-acknowledge, count-send-all}
+
+pub record Assumed : Type 1 where
+  pub waited : Type 0
+  pub intact : Type 0
+
+-- the timer has waited so far if P; packets may have been lost
+abbrev pub assumed : Type 0 → Assumed
+assumed P = record { waited = P; intact = ⊥ }
+
+-- a packet was lost
+abbrev pub unsure : Assumed → Assumed
+unsure a = assumed (a .waited)
 
 module _ (r : Rules) where
-  pub record Flow (P : Type 0) (acked : Payloads) (reached : ℕ) (x : Sender) (y : Receiver) (flight : List InFlight) (dacks : List ℕ) : Type 0 where
+  pub record Flow (a : Assumed) (acked : Payloads) (reached : ℕ) (x : Sender) (y : Receiver) (flight : List InFlight) (dacks : List ℕ) : Type 0 where
     -- accepted and not yet delivered
     pub pending : Payloads
     pub split : acked ++ x .queue ≡ x .accepted
@@ -31,14 +45,15 @@ module _ (r : Rules) where
     pub expected : y .expected ≡ length (y .delivered) % modulus
     pub window : InWindow (r .window) (x .accepted) (length acked) (length (y .delivered)) flight dacks
     pub once : T (r .atOnce) → reached ≡ length (x .accepted)
-    pub count : P → Count (r .window) (length (x .accepted)) (length acked) (length (y .delivered)) reached flight dacks (x .sent) (x .lost)
+    pub count : a .waited → Count (r .window) (length (x .accepted)) (length acked) (length (y .delivered)) reached flight dacks (x .sent) (x .lost)
+    pub trail : a .intact → Trail (length (x .accepted)) (length acked) (length (y .delivered)) reached flight dacks
 
-  module _ {P : Type 0} {acked : Payloads} {reached : ℕ} {x : Sender} {y : Receiver} {flight : List InFlight} {dacks : List ℕ} where
-    pub flow-bound : Flow P acked reached x y flight dacks → P → x .sent ≤ length (x .accepted) + r .window * x .lost
+  module _ {a : Assumed} {acked : Payloads} {reached : ℕ} {x : Sender} {y : Receiver} {flight : List InFlight} {dacks : List ℕ} where
+    pub flow-bound : Flow a acked reached x y flight dacks → a .waited → x .sent ≤ length (x .accepted) + r .window * x .lost
     flow-bound f h = count-bound (r .window) (f .count h)
 
-    pub flow-weaken : {Q : Type 0} → (Q → P) → Flow P acked reached x y flight dacks → Flow Q acked reached x y flight dacks
-    flow-weaken g f = record {
+    pub flow-weaken : {b : Assumed} → (b .waited → a .waited) → (b .intact → a .intact) → Flow a acked reached x y flight dacks → Flow b acked reached x y flight dacks
+    flow-weaken g h f = record {
       pending = f .pending;
       split = f .split;
       prefix = f .prefix;
@@ -46,14 +61,15 @@ module _ (r : Rules) where
       expected = f .expected;
       window = f .window;
       once = f .once;
-      count = λ h. f .count (g h);
+      count = λ u. f .count (g u);
+      trail = λ u. f .trail (h u);
     }
 
-    pub flow-length : Flow P acked reached x y flight dacks → length (x .accepted) ≡ length acked + length (x .queue)
+    pub flow-length : Flow a acked reached x y flight dacks → length (x .accepted) ≡ length acked + length (x .queue)
     flow-length f = ap length (sym (f .split)) ∙ length-append acked (x .queue)
 
     -- a payload is accepted, and not sent at once
-    pub flow-accept : (p : Payload) → T (not (r .atOnce)) → length (x .queue) < r .window → Flow P acked reached x y flight dacks → Flow P acked reached (queued p 0 x) y flight dacks
+    pub flow-accept : (p : Payload) → T (not (r .atOnce)) → length (x .queue) < r .window → Flow a acked reached x y flight dacks → Flow a acked reached (queued p 0 x) y flight dacks
     flow-accept p t h f = record {
       pending = f .pending ++ (p ∷ []);
       split = sym (append-assoc acked (x .queue) (p ∷ [])) ∙ ap (λ (l : Payloads). l ++ (p ∷ [])) (f .split);
@@ -63,14 +79,15 @@ module _ (r : Rules) where
       window = window-accept (r .window) p (omega (arith, flow-length f)) (f .window);
       once = λ u. absurd (T-not (r .atOnce) t u);
       count = λ u. rw (add-zero (x .sent), longer) (count-accept (r .window) (f .count u));
+      trail = λ u. rw longer (trail-accept (f .trail u));
     }
       where
         longer : length (x .accepted ++ (p ∷ [])) ≡ suc (length (x .accepted))
         longer = omega (arith, length-append (x .accepted) (p ∷ []))
 
     -- accepted and sent at once
-    pub flow-accept-once : (p : Payload) → T (r .atOnce) → length (x .queue) < r .window → Flow P acked reached x y flight dacks
-        → Flow P acked (suc (length (x .accepted))) (queued p 1 x) y (flight ++ (record { index = length (x .accepted); limit = suc (length (x .accepted)); payload = p } ∷ [])) dacks
+    pub flow-accept-once : (p : Payload) → T (r .atOnce) → length (x .queue) < r .window → Flow a acked reached x y flight dacks
+        → Flow a acked (suc (length (x .accepted))) (queued p 1 x) y (flight ++ (record { index = length (x .accepted); limit = suc (length (x .accepted)); payload = p } ∷ [])) dacks
     flow-accept-once p t h f = record {
       pending = f .pending ++ (p ∷ []);
       split = sym (append-assoc acked (x .queue) (p ∷ [])) ∙ ap (λ (l : Payloads). l ++ (p ∷ [])) (f .split);
@@ -80,6 +97,7 @@ module _ (r : Rules) where
       window = window-send-one (r .window) (x .accepted) p (omega (arith, h)) (window-accept (r .window) p (omega (arith, flow-length f)) (f .window));
       once = λ u. sym longer;
       count = λ u. rw (longer, one-more) (count-send-one (r .window) p (f .once t) (f .count u));
+      trail = λ u. rw longer (trail-send-one p (f .once t) (f .trail u));
     }
       where
         longer : length (x .accepted ++ (p ∷ [])) ≡ suc (length (x .accepted))
@@ -88,9 +106,9 @@ module _ (r : Rules) where
         one-more : x .sent + 1 ≡ suc (x .sent)
         one-more = omega arith
 
-    -- "send all"; the count goes on where nothing of this direction is on the line
-    pub flow-send-all : (n : ℕ) → n ≡ length (x .queue) → Flow P acked reached x y flight dacks
-        → Flow (P × (flight ≡ []) × (dacks ≡ [])) acked (length (x .accepted)) (counted n x) y (flight ++ batch (length (x .accepted)) (length acked) (x .queue)) dacks
+    -- "send all"; the count goes on, and a trail begins, where nothing of this direction is on the line
+    pub flow-send-all : (n : ℕ) → n ≡ length (x .queue) → Flow a acked reached x y flight dacks
+        → Flow (record { waited = a .waited × (flight ≡ []) × (dacks ≡ []); intact = (flight ≡ []) × (dacks ≡ []) }) acked (length (x .accepted)) (counted n x) y (flight ++ batch (length (x .accepted)) (length acked) (x .queue)) dacks
     flow-send-all n e f = record {
       pending = f .pending;
       split = f .split;
@@ -101,11 +119,14 @@ module _ (r : Rules) where
           (window-send-all (r .window) acked (x .queue) refl (rw (← (f .split)) at (f .window)));
       once = λ u. refl;
       count = λ u. inl (rw (u .1, u .2, e)
-          (count-send-all (r .window) (x .queue) (rising-le (length acked) dacks (length (y .delivered)) (f .window .acks)) (flow-length f)
-          (omega (arith, f .window .room, flow-length f)) (rw (u .1, u .2) at (f .count (u .0)))));
+          (count-send-all (r .window) (x .queue) behind (flow-length f) (omega (arith, f .window .room, flow-length f)) (rw (u .1, u .2) at (f .count (u .0)))));
+      trail = λ u. rw (u .0, u .1) (trail-send-all (x .queue) behind (flow-length f));
     }
+      where
+        behind : length acked ≤ length (y .delivered)
+        behind = rising-le (length acked) dacks (length (y .delivered)) (f .window .acks)
 
-    pub flow-lose-data : (n : ℕ) → Flow P acked reached x y flight dacks → Flow P acked reached (lostOne x) y (eraseAt n flight) dacks
+    pub flow-lose-data : (n : ℕ) → Flow a acked reached x y flight dacks → Flow (unsure a) acked reached (lostOne x) y (eraseAt n flight) dacks
     flow-lose-data n f = record {
       pending = f .pending;
       split = f .split;
@@ -115,9 +136,10 @@ module _ (r : Rules) where
       window = window-lose-data (r .window) n (f .window);
       once = f .once;
       count = λ u. inr (count-lose (r .window) (f .count u));
+      trail = λ u. absurd u;
     }
 
-    pub flow-lose-dack : (n : ℕ) → Flow P acked reached x y flight dacks → Flow P acked reached (lostOne x) y flight (eraseAt n dacks)
+    pub flow-lose-dack : (n : ℕ) → Flow a acked reached x y flight dacks → Flow (unsure a) acked reached (lostOne x) y flight (eraseAt n dacks)
     flow-lose-dack n f = record {
       pending = f .pending;
       split = f .split;
@@ -127,13 +149,14 @@ module _ (r : Rules) where
       window = window-lose-dack (r .window) n (f .window);
       once = f .once;
       count = λ u. inr (count-lose (r .window) (f .count u));
+      trail = λ u. absurd u;
     }
 
-  module _ {P : Type 0} {acked : Payloads} {reached : ℕ} {x : Sender} {y : Receiver} {flight : List InFlight} {dacks : List ℕ} where
+  module _ {a : Assumed} {acked : Payloads} {reached : ℕ} {x : Sender} {y : Receiver} {flight : List InFlight} {dacks : List ℕ} where
     module _ (w : r .window < modulus) where
-      -- DATA with the expected number arrives
-      pub flow-deliver : {d : InFlight} → d .index % modulus ≡ y .expected → Flow P acked reached x y (d ∷ flight) dacks
-          → Flow P acked reached x (delivering (d .payload) y) flight (dacks ++ (suc (length (y .delivered)) ∷ []))
+      -- DATA with the expected number
+      flow-deliver : {d : InFlight} → d .index % modulus ≡ y .expected → Flow a acked reached x y (d ∷ flight) dacks
+          → Flow a acked reached x (delivering (d .payload) y) flight (dacks ++ (length (y .delivered ++ (d .payload ∷ [])) ∷ []))
       flow-deliver {d} h f = record {
         pending = grown .0;
         split = f .split;
@@ -143,6 +166,7 @@ module _ (r : Rules) where
         window = rw longer (window-deliver (r .window) (f .window) same);
         once = f .once;
         count = λ u. rw longer (count-deliver (r .window) same (f .count u));
+        trail = λ u. rw longer (trail-deliver same (f .trail u));
       }
         where
           same : d .index ≡ length (y .delivered)
@@ -158,8 +182,8 @@ module _ (r : Rules) where
           grown = prefix-snoc (y .delivered) (f .pending) (d .payload) here
 
       -- a DACK arrives: it acknowledges k, and frees the slots between; none where it is the base
-      pub flow-acknowledge : {k : ℕ} → Flow P acked reached x y flight (k ∷ dacks)
-          → (k - length acked ≤ length (x .queue)) × Flow P (acked ++ take (k - length acked) (x .queue)) reached (freed (k - length acked) x) y flight dacks
+      pub flow-acknowledge : {k : ℕ} → Flow a acked reached x y flight (k ∷ dacks)
+          → (k - length acked ≤ length (x .queue)) × Flow a (acked ++ take (k - length acked) (x .queue)) reached (freed (k - length acked) x) y flight dacks
       flow-acknowledge {k} f = (
         fewer,
         record {
@@ -172,7 +196,8 @@ module _ (r : Rules) where
           expected = f .expected;
           window = rw longer (window-acknowledge (r .window) (f .window));
           once = f .once;
-          count = λ u. rw longer (count-acknowledge (r .window) flight (f .count u));
+          count = λ u. rw longer (count-acknowledge (r .window) (f .count u));
+          trail = λ u. rw longer (trail-acknowledge flight (f .trail u));
         },
       )
         where
@@ -185,9 +210,9 @@ module _ (r : Rules) where
           longer : length (acked ++ take (k - length acked) (x .queue)) ≡ k
           longer = omega (arith, bounds .0, fewer, length-append acked (take (k - length acked) (x .queue)), length-take (k - length acked) (x .queue))
 
-    -- DATA with another number arrives
-    pub flow-repeat : {d : InFlight} → d .index % modulus ≢ y .expected → Flow P acked reached x y (d ∷ flight) dacks
-        → Flow P acked reached x y flight (dacks ++ (length (y .delivered) ∷ []))
+    -- DATA with another number
+    flow-repeat : {d : InFlight} → d .index % modulus ≢ y .expected → Flow a acked reached x y (d ∷ flight) dacks
+        → Flow a acked reached x y flight (dacks ++ (length (y .delivered) ∷ []))
     flow-repeat {d} h f = record {
       pending = f .pending;
       split = f .split;
@@ -197,7 +222,17 @@ module _ (r : Rules) where
       window = window-repeat (r .window) (f .window);
       once = f .once;
       count = λ u. count-repeat (r .window) other (f .count u);
+      trail = λ u. trail-repeat other (f .trail u);
     }
       where
         other : d .index ≢ length (y .delivered)
         other e = h (ap (λ (n : ℕ). n % modulus) e ∙ sym (f .expected))
+
+  -- DATA arrives: it is judged by its residue, and the DACK says how many payloads are delivered now
+  pub flow-judge : (w : r .window < modulus) {a : Assumed} {acked : Payloads} {reached : ℕ} {x : Sender} {y : Receiver} {d : InFlight} {flight : List InFlight} {dacks : List ℕ}
+      → (hit : Bool)
+      → eqb (d .index % modulus) (y .expected) ≡ hit
+      → Flow a acked reached x y (d ∷ flight) dacks
+      → Flow a acked reached x (judged hit (d .payload) y) flight (dacks ++ (length (judged hit (d .payload) y .delivered) ∷ []))
+  flow-judge w {y = y} {d = d} true e f = flow-deliver w (eqb-true (d .index % modulus) (y .expected) e) f
+  flow-judge w {y = y} {d = d} false e f = flow-repeat (eqb-false (d .index % modulus) (y .expected) e) f

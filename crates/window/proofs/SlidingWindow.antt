@@ -11,11 +11,11 @@ use borrow.Author.Tests.{ltb-true}
 use Rattle.common.proofs.Bools.{either}
 use Rattle.window.specs.Sides.{Side, left, right, Both, mirror}
 use Rattle.window.specs.Ends.{Rules, Lawful, Sender, Receiver, End}
-use Rattle.window.specs.Events.{Act, offer, timeout, receive, lose, Event, fresh, start, step, stepAt, run, Waits, WaitsAt, TimerWaits, Drained}
+use Rattle.window.specs.Events.{Act, offer, timeout, receive, lose, Event, fresh, start, arrive, step, stepAt, run, Waits, WaitsAt, TimerWaits, Drained}
 use Rattle.window.specs.Claim.{OneWay, SlidingWindow}
-use Rattle.window.proofs.Flow.{Flow, flow-bound}
+use Rattle.window.proofs.Flow.{assumed, Flow, flow-bound}
 use Rattle.window.proofs.Invariant.{Invariant, invariant-mirror, invariant-weaken, invariant-accept, invariant-send-all, invariant-lose}
-use Rattle.window.proofs.Arrival.{invariant-arrive}
+use Rattle.window.proofs.Arrival.{invariant-arrive, invariant-refuse}
 
 module _ (r : Rules) (law : Lawful r) where
   right-true : (a b : Bool) → (a && b) ≡ true → b ≡ true
@@ -23,31 +23,38 @@ module _ (r : Rules) (law : Lawful r) where
   right-true false b e = cc
 
   -- ---- one event at the left end, at either end, and a list of them
-  invariant-step : (a : Act) {P Q : Type 0} (s : Both End) → Invariant r P Q s → Invariant r (P × Waits a s) Q (step r a s)
-  invariant-step (offer ok p) {P} {Q} s v = invariant-weaken r (λ h. h .0) (λ h. h)
-      (either (Invariant r P Q) (ok && ltb (length (s .left .sender .queue)) (r .window))
-      (λ e. invariant-accept r v p (ltb-true (length (s .left .sender .queue)) (r .window) (right-true ok (ltb (length (s .left .sender .queue)) (r .window)) e))) (λ e. v))
-  invariant-step (timeout ok) {P} {Q} s v =
-      either (Invariant r (P × Drained s) Q) (ok && ltb 0 (length (s .left .sender .queue)))
-      (λ e. invariant-send-all r v) (λ e. invariant-weaken r (λ h. h .0) (λ h. h) v)
-  invariant-step (receive ok) s v = invariant-weaken r (λ h. h .0) (λ h. h) (invariant-arrive r law s v ok)
-  invariant-step (lose n) s v = invariant-weaken r (λ h. h .0) (λ h. h) (invariant-lose r v n)
-
-  pub invariant-stepAt : (d : Side) (a : Act) {P Q : Type 0} (s : Both End) → Invariant r P Q s
-      → Invariant r (P × WaitsAt left d a s) (Q × WaitsAt right d a s) (stepAt r d a s)
-  invariant-stepAt left a s v = invariant-weaken r (λ h. h) (λ h. h .0) (invariant-step a s v)
-  invariant-stepAt right a s v = invariant-weaken r (λ h. h .0) (λ h. h) (invariant-mirror r (invariant-step a (mirror s) (invariant-mirror r v)))
+  arrive-by : (ok : Bool) {P Q : Type 0} (s : Both End) → Invariant r (assumed P) (assumed Q) s → Invariant r (assumed P) (assumed Q) (arrive r ok (s .right .line) s)
+  arrive-by true s v = invariant-arrive r law s v
+  arrive-by false s v = invariant-refuse r law s v
 
   -- the premise on each timer is collected on the way
-  pub invariant-run : (es : List Event) {P Q : Type 0} (s : Both End) → Invariant r P Q s
-      → Invariant r (P × TimerWaits r left es s) (Q × TimerWaits r right es s) (run r es s)
-  invariant-run [] s v = invariant-weaken r (λ h. h .0) (λ h. h .0) v
+  keep : {P Q R : Type 0} {s : Both End} → Invariant r (assumed P) (assumed Q) s → Invariant r (assumed (P × R)) (assumed Q) s
+  keep v = invariant-weaken r (λ u. u .0) (λ u. u) (λ u. u) (λ u. u) v
+
+  invariant-step : (a : Act) {P Q : Type 0} (s : Both End) → Invariant r (assumed P) (assumed Q) s → Invariant r (assumed (P × Waits a s)) (assumed Q) (step r a s)
+  invariant-step (offer ok p) {P} {Q} s v =
+      keep (either (Invariant r (assumed P) (assumed Q)) (ok && ltb (length (s .left .sender .queue)) (r .window))
+      (λ e. invariant-accept r v p (ltb-true (length (s .left .sender .queue)) (r .window) (right-true ok (ltb (length (s .left .sender .queue)) (r .window)) e))) (λ e. v))
+  invariant-step (timeout ok) {P} {Q} s v =
+      either (Invariant r (assumed (P × Drained s)) (assumed Q)) (ok && ltb 0 (length (s .left .sender .queue)))
+      (λ e. invariant-weaken r (λ u. u) (λ u. absurd u) (λ u. u) (λ u. u) (invariant-send-all r v)) (λ e. keep v)
+  invariant-step (receive ok) s v = keep (arrive-by ok s v)
+  invariant-step (lose n) s v = keep (invariant-lose r v n)
+
+  invariant-stepAt : (d : Side) (a : Act) {P Q : Type 0} (s : Both End) → Invariant r (assumed P) (assumed Q) s
+      → Invariant r (assumed (P × WaitsAt left d a s)) (assumed (Q × WaitsAt right d a s)) (stepAt r d a s)
+  invariant-stepAt left a s v = invariant-mirror r (keep (invariant-mirror r (invariant-step a s v)))
+  invariant-stepAt right a s v = keep (invariant-mirror r (invariant-step a (mirror s) (invariant-mirror r v)))
+
+  pub invariant-run : (es : List Event) {P Q : Type 0} (s : Both End) → Invariant r (assumed P) (assumed Q) s
+      → Invariant r (assumed (P × TimerWaits r left es s)) (assumed (Q × TimerWaits r right es s)) (run r es s)
+  invariant-run [] s v = invariant-mirror r (keep (invariant-mirror r (keep v)))
   invariant-run (e ∷ es) s v =
-      invariant-weaken r (λ h. ((h .0, h .1 .0), h .1 .1)) (λ h. ((h .0, h .1 .0), h .1 .1))
+      invariant-weaken r (λ u. ((u .0, u .1 .0), u .1 .1)) (λ u. u) (λ u. ((u .0, u .1 .0), u .1 .1)) (λ u. u)
       (invariant-run es (stepAt r (e .side) (e .act) s) (invariant-stepAt (e .side) (e .act) s v))
 
   -- ---- the start
-  flow-start : Flow r (Unit {0}) [] 0 (fresh .sender) (fresh .receiver) [] []
+  flow-start : Flow r (assumed (Unit {0})) [] 0 (fresh .sender) (fresh .receiver) [] []
   flow-start = record {
     pending = [];
     split = refl;
@@ -56,10 +63,11 @@ module _ (r : Rules) (law : Lawful r) where
     expected = refl;
     window = record { acks = omega arith; ahead = omega arith; room = omega arith; fits = tt };
     once = λ t. refl;
-    count = λ h. inl (record { sum = omega arith; some = omega arith; chain = omega arith; last = omega arith });
+    count = λ h. inl (record { sum = omega arith; trail = record { some = omega arith; chain = omega arith; last = omega arith } });
+    trail = λ u. absurd u;
   }
 
-  pub invariant-start : Invariant r (Unit {0}) (Unit {0}) start
+  pub invariant-start : Invariant r (assumed (Unit {0})) (assumed (Unit {0})) start
   invariant-start = record {
     leftMarks = [];
     rightMarks = [];

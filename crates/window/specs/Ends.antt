@@ -78,6 +78,10 @@ applyDack d x = cond (acknowledges d (x .queue)) (freed d x) x
 abbrev pub delivering : Payload → Receiver → Receiver
 delivering p y = record { expected = advance (y .expected) 1; delivered = y .delivered ++ (p ∷ []) }
 
+-- "judge": where the number is the expected one (the Bool), the payload is delivered; else nothing is
+abbrev pub judged : Bool → Payload → Receiver → Receiver
+judged hit p y = cond hit (delivering p y) y
+
 -- ---- an end
 abbrev pub withLine : List Packet → End → End
 withLine ks e = record { sender = e .sender; receiver = e .receiver; line = ks }
@@ -106,14 +110,10 @@ module _ (r : Rules) where
   abbrev pub sendAll : End → End
   sendAll e = sending (numbered (e .sender .base) (e .sender .queue)) e
 
-  -- "judge", the expected number: the payload is delivered; a DACK with the number expected now
-  abbrev pub deliver : Payload → End → End
-  deliver p e = record {
-    sender = e .sender;
-    receiver = delivering p (e .receiver);
-    line = e .line ++ (dackPdu (r .dackNumber (advance (e .receiver .expected) 1)) ∷ []);
-  }
+  -- "either way send DACK with the number now awaited"
+  abbrev pub answering : Receiver → End → End
+  answering y e = record { sender = e .sender; receiver = y; line = e .line ++ (dackPdu (r .dackNumber (y .expected)) ∷ []) }
 
-  -- "judge", another number: nothing is delivered; a DACK with the number expected still
-  abbrev pub repeatDack : End → End
-  repeatDack e = withLine (e .line ++ (dackPdu (r .dackNumber (e .receiver .expected)) ∷ [])) e
+  -- DATA arrives; the Bool says whether it has the expected number
+  abbrev pub takeData : Bool → Payload → End → End
+  takeData hit p e = answering (judged hit p (e .receiver)) e

@@ -8,7 +8,7 @@ use lib.ListN.{length, getElem?}
 use lib.Dec.{ltb, eqb}
 use Rattle.window.specs.Sides.{Side, left, right, Both, mirror, eraseAt}
 use Rattle.window.specs.Packets.{Payload, Packet, dataPdu, dackPdu, countData, countDack}
-use Rattle.window.specs.Ends.{Rules, End, lostOne, applyDack, withLine, withSender, accept, sendAll, deliver, repeatDack}
+use Rattle.window.specs.Ends.{Rules, End, lostOne, applyDack, withLine, withSender, accept, sendAll, takeData}
 
 -- what happens at an end. The Bool says whether the call passes the refusals that go by what is lent to it (a reply buffer that is too
 -- short, a payload that is too long)
@@ -45,7 +45,7 @@ module _ (r : Rules) where
   arrive ok [] s = s
   arrive ok (dataPdu x p ∷ ks) s =
       cond ok
-      (record { left = cond (eqb x (s .left .receiver .expected)) (deliver r p (s .left)) (repeatDack r (s .left)); right = withLine ks (s .right) })
+      (record { left = takeData r (eqb x (s .left .receiver .expected)) p (s .left); right = withLine ks (s .right) })
       (record { left = s .left; right = withSender (lostOne (s .right .sender)) (withLine ks (s .right)) })
   arrive ok (dackPdu x ∷ ks) s =
       cond ok
