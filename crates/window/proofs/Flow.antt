@@ -2,8 +2,8 @@
 -- and the count. Assumes nothing.
 --
 -- What the proof knows beside the state stands as a parameter: `acked` are the payloads that left the queue, `reached` is how many were sent
--- at least once. What holds only on a condition stands under it: the count where the sender's timer has waited, the trail where no packet of
--- this direction was lost since the queue was last sent with the line drained.
+-- at least once. What holds only on a condition stands under it: the count where the sender's timer has waited, the trail where since the
+-- queue was last sent with the line drained no packet of this direction was lost and no payload queued that is not sent.
 use Prim.Native.Nat.{ℕ, zero, suc, _+_, _-_, _*_, _%_, _≤_, _<_, min}
 use mathlib.Core.Path.{_≡_, refl, sym, ap, subst, _∙_}
 use mathlib.Core.Logic.{_⊎_, inl, inr, _≢_}
@@ -21,7 +21,7 @@ use Rattle.window.specs.Ends.{Rules, Sender, Receiver, queued, counted, 
 use Rattle.window.proofs.Rising.{rising-le}
 use Rattle.window.proofs.InFlight.{InFlight, batch, prefix-snoc}
 use Rattle.window.proofs.Window.{InWindow, window-deliver, window-repeat, window-acknowledge, window-lose-data, window-lose-dack, window-agrees, window-dack, window-accept, window-send-one, window-send-all}
-use Rattle.window.proofs.Count.{Trail, trail-accept, trail-send-one, trail-deliver, trail-repeat, trail-acknowledge, trail-send-all, Count, count-bound, count-lose, count-accept, count-send-one, count-deliver, count-repeat, count-acknowledge, count-send-all}
+use Rattle.window.proofs.Count.{Trail, trail-send-one, trail-deliver, trail-repeat, trail-acknowledge, trail-send-all, Count, count-bound, count-lose, count-accept, count-send-one, count-deliver, count-repeat, count-acknowledge, count-send-all}
 
 pub record Assumed : Type 1 where
   pub waited : Type 0
@@ -31,7 +31,7 @@ pub record Assumed : Type 1 where
 abbrev pub assumed : Type 0 → Assumed
 assumed P = record { waited = P; intact = ⊥ }
 
--- a packet was lost
+-- a packet was lost, or a payload is queued that is not sent
 abbrev pub unsure : Assumed → Assumed
 unsure a = assumed (a .waited)
 
@@ -46,7 +46,7 @@ module _ (r : Rules) where
     pub window : InWindow (r .window) (x .accepted) (length acked) (length (y .delivered)) flight dacks
     pub once : T (r .atOnce) → reached ≡ length (x .accepted)
     pub count : a .waited → Count (r .window) (length (x .accepted)) (length acked) (length (y .delivered)) reached flight dacks (x .sent) (x .lost)
-    pub trail : a .intact → Trail (length (x .accepted)) (length acked) (length (y .delivered)) reached flight dacks
+    pub trail : a .intact → Trail (length (x .accepted)) (length acked) (length (y .delivered)) (length (x .accepted)) flight dacks
 
   module _ {a : Assumed} {acked : Payloads} {reached : ℕ} {x : Sender} {y : Receiver} {flight : List InFlight} {dacks : List ℕ} where
     pub flow-bound : Flow a acked reached x y flight dacks → a .waited → x .sent ≤ length (x .accepted) + r .window * x .lost
@@ -69,7 +69,7 @@ module _ (r : Rules) where
     flow-length f = ap length (sym (f .split)) ∙ length-append acked (x .queue)
 
     -- a payload is accepted, and not sent at once
-    pub flow-accept : (p : Payload) → T (not (r .atOnce)) → length (x .queue) < r .window → Flow a acked reached x y flight dacks → Flow a acked reached (queued p 0 x) y flight dacks
+    pub flow-accept : (p : Payload) → T (not (r .atOnce)) → length (x .queue) < r .window → Flow a acked reached x y flight dacks → Flow (unsure a) acked reached (queued p 0 x) y flight dacks
     flow-accept p t h f = record {
       pending = f .pending ++ (p ∷ []);
       split = sym (append-assoc acked (x .queue) (p ∷ [])) ∙ ap (λ (l : Payloads). l ++ (p ∷ [])) (f .split);
@@ -79,7 +79,7 @@ module _ (r : Rules) where
       window = window-accept (r .window) p (omega (arith, flow-length f)) (f .window);
       once = λ u. absurd (T-not (r .atOnce) t u);
       count = λ u. rw (add-zero (x .sent), longer) (count-accept (r .window) (f .count u));
-      trail = λ u. rw longer (trail-accept (f .trail u));
+      trail = λ u. absurd u;
     }
       where
         longer : length (x .accepted ++ (p ∷ [])) ≡ suc (length (x .accepted))
@@ -97,7 +97,7 @@ module _ (r : Rules) where
       window = window-send-one (r .window) (x .accepted) p (omega (arith, h)) (window-accept (r .window) p (omega (arith, flow-length f)) (f .window));
       once = λ u. sym longer;
       count = λ u. rw (longer, one-more) (count-send-one (r .window) p (f .once t) (f .count u));
-      trail = λ u. rw longer (trail-send-one p (f .once t) (f .trail u));
+      trail = λ u. rw longer (trail-send-one p refl (f .trail u));
     }
       where
         longer : length (x .accepted ++ (p ∷ [])) ≡ suc (length (x .accepted))
@@ -125,6 +125,21 @@ module _ (r : Rules) where
       where
         behind : length acked ≤ length (y .delivered)
         behind = rising-le (length acked) dacks (length (y .delivered)) (f .window .acks)
+
+    -- with nothing queued and nothing on the line, all is acknowledged
+    pub flow-idle : x .queue ≡ [] → flight ≡ [] → dacks ≡ [] → Flow a acked reached x y flight dacks
+        → Flow (record { waited = a .waited; intact = Unit {0} }) acked reached x y flight dacks
+    flow-idle e d c f = record {
+      pending = f .pending;
+      split = f .split;
+      prefix = f .prefix;
+      base = f .base;
+      expected = f .expected;
+      window = f .window;
+      once = f .once;
+      count = f .count;
+      trail = λ u. rw (d, c) (trail-send-all [] (rising-le (length acked) dacks (length (y .delivered)) (f .window .acks)) (flow-length f ∙ ap (λ (q : Payloads). length acked + length q) e));
+    }
 
     pub flow-lose-data : (n : ℕ) → Flow a acked reached x y flight dacks → Flow (unsure a) acked reached (lostOne x) y (eraseAt n flight) dacks
     flow-lose-data n f = record {

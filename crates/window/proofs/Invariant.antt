@@ -15,7 +15,7 @@ use Rattle.window.specs.Ends.{Rules, End, firstSent, acceptWith, accept,
 use Rattle.window.specs.Events.{loseAt, Drained}
 use Rattle.window.proofs.InFlight.{InFlight, map-eraseAt, batch}
 use Rattle.window.proofs.Marks.{Mark, dataMark, dackMark, dataOf, dacksOf, dataOf-++, dacksOf-++, marks, dataOf-marks, dacksOf-marks, packetOf, numbered-batch, no-data, no-dack, count-numbered, get-map, Taken, taken-at}
-use Rattle.window.proofs.Flow.{Assumed, unsure, Flow, flow-weaken, flow-length, flow-accept, flow-accept-once, flow-send-all, flow-lose-data, flow-lose-dack}
+use Rattle.window.proofs.Flow.{Assumed, unsure, Flow, flow-weaken, flow-length, flow-accept, flow-accept-once, flow-send-all, flow-idle, flow-lose-data, flow-lose-dack}
 
 pub append-marks : (g : List Mark) (fs : List InFlight) → dataOf (g ++ marks fs) ≡ dataOf g ++ fs
 append-marks g fs = dataOf-++ g (marks fs) ∙ ap (λ (l : List InFlight). dataOf g ++ l) (dataOf-marks fs)
@@ -72,8 +72,15 @@ module _ (r : Rules) where
   invariant-unsure v = invariant-weaken (λ u. u) (λ u. absurd u) (λ u. u) (λ u. absurd u) v
 
   module _ {a b : Assumed} {s : Both End} (v : Invariant a b s) where
+    -- a drained line has no marks of this direction
+    pub drained-marks : Drained s → (dataOf (v .leftMarks) ≡ []) × (dacksOf (v .rightMarks) ≡ [])
+    drained-marks u = (
+      no-data (r .dackNumber) (v .leftMarks) (ap countData (sym (v .leftLine)) ∙ u .0),
+      no-dack (r .dackNumber) (v .rightMarks) (ap countDack (sym (v .rightLine)) ∙ u .1),
+    )
+
     -- ---- a payload is accepted
-    accept-later : (p : Payload) → T (not (r .atOnce)) → length (s .left .sender .queue) < r .window → Invariant a b (record { left = acceptWith [] p (s .left); right = s .right })
+    accept-later : (p : Payload) → T (not (r .atOnce)) → length (s .left .sender .queue) < r .window → Invariant (unsure a) b (record { left = acceptWith [] p (s .left); right = s .right })
     accept-later p t h = record {
       leftMarks = v .leftMarks;
       rightMarks = v .rightMarks;
@@ -88,7 +95,7 @@ module _ (r : Rules) where
     }
 
     accept-once : (p : Payload) → T (r .atOnce) → length (s .left .sender .queue) < r .window
-        → Invariant a b (record { left = acceptWith (dataPdu ((s .left .sender .base + length (s .left .sender .queue)) % modulus) p ∷ []) p (s .left); right = s .right })
+        → Invariant (unsure a) b (record { left = acceptWith (dataPdu ((s .left .sender .base + length (s .left .sender .queue)) % modulus) p ∷ []) p (s .left); right = s .right })
     accept-once p t h = record {
       leftMarks = v .leftMarks ++ marks (f ∷ []);
       rightMarks = v .rightMarks;
@@ -98,7 +105,7 @@ module _ (r : Rules) where
       rightReached = v .rightReached;
       leftLine = (λ i. v .leftLine i ++ (dataPdu (number i) p ∷ [])) ∙ sym (map-append (packetOf (r .dackNumber)) (v .leftMarks) (marks (f ∷ [])));
       rightLine = v .rightLine;
-      leftFlow = rw (append-marks (v .leftMarks) (f ∷ [])) (flow-accept-once r p t h (v .leftFlow));
+      leftFlow = rw (append-marks (v .leftMarks) (f ∷ [])) (flow-weaken r (λ u. u) (λ u. absurd u) (flow-accept-once r p t h (v .leftFlow)));
       rightFlow = rw (append-marks-dacks (v .leftMarks) (f ∷ [])) (v .rightFlow);
     }
       where
@@ -109,11 +116,11 @@ module _ (r : Rules) where
         number = omega (arith, v .leftFlow .base, flow-length r (v .leftFlow))
 
     accept-by : (once : Bool) (p : Payload) → once ≡ r .atOnce → length (s .left .sender .queue) < r .window
-        → Invariant a b (record { left = acceptWith (firstSent once ((s .left .sender .base + length (s .left .sender .queue)) % modulus) p) p (s .left); right = s .right })
+        → Invariant (unsure a) b (record { left = acceptWith (firstSent once ((s .left .sender .base + length (s .left .sender .queue)) % modulus) p) p (s .left); right = s .right })
     accept-by true p e h = accept-once p (subst T e tt) h
     accept-by false p e h = accept-later p (subst (λ (b : Bool). T (not b)) e tt) h
 
-    pub invariant-accept : (p : Payload) → length (s .left .sender .queue) < r .window → Invariant a b (record { left = accept r p (s .left); right = s .right })
+    pub invariant-accept : (p : Payload) → length (s .left .sender .queue) < r .window → Invariant (unsure a) b (record { left = accept r p (s .left); right = s .right })
     invariant-accept p h = accept-by (r .atOnce) p refl h
 
     -- ---- "send all"; from then on it is asked that the line was drained
@@ -129,18 +136,27 @@ module _ (r : Rules) where
           ∙ sym (map-append (packetOf (r .dackNumber)) (v .leftMarks) (marks sent));
       rightLine = v .rightLine;
       leftFlow = rw (append-marks (v .leftMarks) sent)
-          (flow-weaken r (λ u. (u .0, drained (u .1) .0, drained (u .1) .1)) drained (flow-send-all r (countData (numbered (s .left .sender .base) (s .left .sender .queue))) (count-numbered (s .left .sender .base) (s .left .sender .queue)) (v .leftFlow)));
+          (flow-weaken r (λ u. (u .0, drained-marks (u .1) .0, drained-marks (u .1) .1)) drained-marks (flow-send-all r (countData (numbered (s .left .sender .base) (s .left .sender .queue))) (count-numbered (s .left .sender .base) (s .left .sender .queue)) (v .leftFlow)));
       rightFlow = rw (append-marks-dacks (v .leftMarks) sent) (v .rightFlow);
     }
       where
         sent : List InFlight
         sent = batch (length (s .left .sender .accepted)) (length (v .leftAcked)) (s .left .sender .queue)
 
-        drained : Drained s → (dataOf (v .leftMarks) ≡ []) × (dacksOf (v .rightMarks) ≡ [])
-        drained u = (
-          no-data (r .dackNumber) (v .leftMarks) (ap countData (sym (v .leftLine)) ∙ u .0),
-          no-dack (r .dackNumber) (v .rightMarks) (ap countDack (sym (v .rightLine)) ∙ u .1),
-        )
+    -- ---- nothing is queued and nothing is on the line
+    pub invariant-idle : s .left .sender .queue ≡ [] → Drained s → Invariant (record { waited = a .waited; intact = Unit {0} }) b s
+    invariant-idle e u = record {
+      leftMarks = v .leftMarks;
+      rightMarks = v .rightMarks;
+      leftAcked = v .leftAcked;
+      rightAcked = v .rightAcked;
+      leftReached = v .leftReached;
+      rightReached = v .rightReached;
+      leftLine = v .leftLine;
+      rightLine = v .rightLine;
+      leftFlow = flow-idle r e (drained-marks u .0) (drained-marks u .1) (v .leftFlow);
+      rightFlow = v .rightFlow;
+    }
 
     -- ---- a loss
     lose-by : (n : ℕ) (o : Option Mark) → Taken n (v .leftMarks) o → Invariant (unsure a) (unsure b) (loseAt n (Option·map (packetOf (r .dackNumber)) o) s)

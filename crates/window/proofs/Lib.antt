@@ -7,3 +7,6 @@ pub mod Flow
 pub mod Invariant
 pub mod Arrival
 pub mod SlidingWindow
+pub mod Progress
+pub mod Deciding
+pub mod Instances

@@ -1,10 +1,12 @@
--- What the sliding window gives. Proved in proofs/SlidingWindow. Assumes nothing.
+-- What the sliding window gives. Proved in proofs/SlidingWindow and proofs/Progress. Assumes nothing.
 use Prim.Native.Nat.{ℕ, _+_, _*_, _≤_}
-use mathlib.Core.List.{List, IsPrefix}
-use lib.ListN.{length}
-use Rattle.window.specs.Sides.{Side, left, right, Both}
+use mathlib.Core.Path.{_≡_}
+use mathlib.Core.Bool.{true}
+use mathlib.Core.List.{List, [], _∷_, _++_, IsPrefix}
+use lib.ListN.{length, replicate}
+use Rattle.window.specs.Sides.{Side, left, right, opposite, Both, endAt}
 use Rattle.window.specs.Ends.{Rules, End}
-use Rattle.window.specs.Events.{Event, start, run, TimerWaits}
+use Rattle.window.specs.Events.{timeout, receive, Event, start, run, TimerWaits}
 
 -- from the sender to the receiver: what is delivered is an initial part of what was accepted, in order; and where the sender's timer waited,
 -- the DATA sent are at most the payloads accepted and a window for each lost packet
@@ -15,3 +17,16 @@ pub record OneWay (r : Rules) (sender receiver : End) (Waited : Type 0) : Type 0
 pub record SlidingWindow (r : Rules) (es : List Event) : Type 0 where
   pub leftToRight : OneWay r (run r es start .left) (run r es start .right) (TimerWaits r left es start)
   pub rightToLeft : OneWay r (run r es start .right) (run r es start .left) (TimerWaits r right es start)
+
+-- ---- progress
+-- the timer of this end, then k arrivals at the other end, then m arrivals at this one; none is refused and nothing is lost
+abbrev pub exchange : Side → ℕ → ℕ → List Event
+exchange d k m =
+    record { side = d; act = timeout true }
+    ∷ (replicate k (record { side = opposite d; act = receive true }) ++ replicate m (record { side = d; act = receive true }))
+
+-- from s to z: nothing is left in the queue of this end, and all that it had accepted is delivered
+pub record Settled (d : Side) (s z : Both End) : Type 0 where
+  pub queue : endAt d z .sender .queue ≡ []
+  pub accepted : endAt d z .sender .accepted ≡ endAt d s .sender .accepted
+  pub delivered : endAt (opposite d) z .receiver .delivered ≡ endAt d s .sender .accepted

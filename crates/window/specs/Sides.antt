@@ -7,6 +7,10 @@ pub data Side : Type 0 where
   left : Side
   right : Side
 
+abbrev pub opposite : Side → Side
+opposite left = right
+opposite right = left
+
 -- the two ends
 pub record Both (E : Type 0) : Type 0 where
   pub left : E
@@ -15,6 +19,11 @@ pub record Both (E : Type 0) : Type 0 where
 -- the ends exchanged: what happens at the right end is what happens at the left one, seen in the mirror
 abbrev pub mirror : {E : Type 0} → Both E → Both E
 mirror s = record { left = s .right; right = s .left }
+
+-- the end of this side
+abbrev pub endAt : {E : Type 0} → Side → Both E → E
+endAt left s = s .left
+endAt right s = s .right
 
 -- a list without its element at index n; the same list where it has none there
 abbrev pub eraseAt : {A : Type 0} → ℕ → List A → List A
