@@ -15,12 +15,13 @@ use Rattle.dlc.specs.Limits.{slots}
 use Rattle.dlc.specs.Model.{view, opened}
 use Rattle.window.specs.Sides.{left, right}
 use Rattle.window.specs.Ends.{End as Peer}
+use Rattle.window.specs.Events.{start as packetStart}
 use Rattle.window.specs.Claim.{OneWay as PacketOneWay}
 use Rattle.window.proofs.SlidingWindow.{sliding-window}
-use Rattle.dlc_pair.specs.World.{Packets, End, initial}
+use Rattle.dlc_pair.specs.World.{Packets, End, World, initial}
 use Rattle.dlc_pair.specs.History.{Event, History}
 use Rattle.dlc_pair.specs.Demand3.{OneWay, Demand3}
-use Rattle.dlc_pair.proofs.Relation.{Follows}
+use Rattle.dlc_pair.proofs.Relation.{Follows, BothFollow}
 use Rattle.dlc_pair.proofs.Effects.{rules, lawful}
 use Rattle.dlc_pair.proofs.Runs.{eventOf, run-follows, timerWaits-follow, follow-initial}
 
@@ -32,13 +33,16 @@ one-way f f′ g c = record {
   formed = f .never;
 }
 
--- for every list of events, whatever its calls give back under their contracts
-pub demand-three : (l l′ : Link) → view l ≡ opened → view l′ ≡ opened → (es : List Event) (h : History es (initial l l′)) → Demand3 es (initial l l′) h
-demand-three l l′ e e′ es h =
-    let first = follow-initial l l′ e e′ in
-    let last = run-follows es first h in
+-- from every world that follows the packet system's start
+pub demand-three-from : {w : World} → BothFollow w packetStart → (es : List Event) (h : History es w) → Demand3 es w h
+demand-three-from f es h =
+    let last = run-follows es f h in
     let c = sliding-window rules lawful (map eventOf es) in
     record {
-      leftToRight = one-way (last .left) (last .right) (timerWaits-follow left es first h) (c .leftToRight);
-      rightToLeft = one-way (last .right) (last .left) (timerWaits-follow right es first h) (c .rightToLeft);
+      leftToRight = one-way (last .left) (last .right) (timerWaits-follow left es f h) (c .leftToRight);
+      rightToLeft = one-way (last .right) (last .left) (timerWaits-follow right es f h) (c .rightToLeft);
     }
+
+-- demand 3: for every list of events, whatever its calls give back under their contracts
+pub demand-three : (l l′ : Link) → view l ≡ opened → view l′ ≡ opened → (es : List Event) (h : History es (initial l l′)) → Demand3 es (initial l l′) h
+demand-three l l′ e e′ es h = demand-three-from (follow-initial l l′ e e′) es h

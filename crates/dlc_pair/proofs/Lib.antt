@@ -5,3 +5,6 @@ pub mod Steps
 pub mod Runs
 pub mod Demand3
 pub mod Existence
+pub mod Worked
+pub mod Progress
+pub mod Opening

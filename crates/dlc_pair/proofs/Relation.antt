@@ -61,7 +61,7 @@ pub record BothFollow (w : World) (s : Both Peer) : Type 0 where
 pub follow-mirror : {w : World} {s : Both Peer} → BothFollow w s → BothFollow (mirror w) (mirror s)
 follow-mirror f = record { left = f .right; right = f .left }
 
-never-snoc : (c : ℕ) (xs : List ℕ) (x : ℕ) → Never c xs → x ≢ c → Never c (xs ++ (x ∷ []))
+pub never-snoc : (c : ℕ) (xs : List ℕ) (x : ℕ) → Never c xs → x ≢ c → Never c (xs ++ (x ∷ []))
 never-snoc c [] x n h = (h, tt)
 never-snoc c (y ∷ xs) x n h = (n .0, never-snoc c xs x (n .1) h)
 

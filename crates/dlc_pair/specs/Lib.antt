@@ -1,3 +1,5 @@
 pub mod World
 pub mod History
 pub mod Demand3
+pub mod Opening
+pub mod Progress

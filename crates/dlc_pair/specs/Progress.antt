@@ -1,0 +1,32 @@
+-- Progress: what is queued is delivered, once nothing is lost any more. Proved in proofs/Progress. Assumes nothing.
+use Prim.Native.Nat.{ℕ, _≤_}
+use mathlib.Core.Path.{_≡_}
+use mathlib.Core.List.{List, [], _∷_, _++_, map}
+use lib.ListN.{length}
+use Rattle.window.specs.Sides.{Side, opposite, endAt}
+use Rattle.dlc.specs.Limits.{replySize}
+use Rattle.dlc.specs.Model.{view}
+use Rattle.dlc_pair.specs.World.{Octets, World}
+use Rattle.dlc_pair.specs.History.{timer, arrival, Event}
+
+-- a reply buffer that no call refuses
+abbrev pub Enough : Octets → Type 0
+Enough before = replySize ≤ length before
+
+abbrev pub AllEnough : List Octets → Type 0
+AllEnough [] = Unit {0}
+AllEnough (b ∷ bs) = Enough b × AllEnough bs
+
+-- an arrival at this end for each of the reply buffers
+abbrev pub arrivals : Side → List Octets → List Event
+arrivals d bs = map (λ (b : Octets). record { side = d; act = arrival b }) bs
+
+-- the timer of this end, then arrivals at the other end, then arrivals at this end, each call with a reply buffer of its own
+abbrev pub exchange : Side → Octets → List Octets → List Octets → List Event
+exchange d b bs cs = record { side = d; act = timer b } ∷ (arrivals (opposite d) bs ++ arrivals d cs)
+
+-- from w to z: nothing is left in the queue of this end, and all that it had accepted is delivered at the other
+pub record Settled (d : Side) (w z : World) : Type 0 where
+  pub queue : view (endAt d z .link) .queue ≡ []
+  pub accepted : endAt d z .accepted ≡ endAt d w .accepted
+  pub delivered : endAt (opposite d) z .delivered ≡ endAt d w .accepted
