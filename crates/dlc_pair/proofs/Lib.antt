@@ -1,3 +1,4 @@
+pub mod Cases
 pub mod Codec
 pub mod Relation
 pub mod Effects

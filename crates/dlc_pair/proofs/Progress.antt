@@ -36,8 +36,11 @@ arrivals-packets d (b ∷ bs) h = λ i. record { side = d; act = receive (enough
 exchange-packets : (d : Side) (b : Octets) (bs cs : List Octets) → Enough b → AllEnough bs → AllEnough cs
     → map eventOf (exchange d b bs cs) ≡ packetExchange d (length bs) (length cs)
 exchange-packets d b bs cs h hs ks =
-    let e = map-append eventOf (arrivals (opposite d) bs) (arrivals d cs) ∙ (λ i. arrivals-packets (opposite d) bs hs i ++ arrivals-packets d cs ks i) in
-    λ i. record { side = d; act = timeout (enough-long b h i) } ∷ e i
+    let there = arrivals-packets (opposite d) bs hs in
+    let here = arrivals-packets d cs ks in
+    let both : map eventOf (arrivals (opposite d) bs ++ arrivals d cs) ≡ _ = map-append eventOf (arrivals (opposite d) bs) (arrivals d cs) ∙ (λ i. there i ++ here i) in
+    ap (λ (ok : Bool). record { side = d; act = timeout ok } ∷ map eventOf (arrivals (opposite d) bs ++ arrivals d cs)) (enough-long b h)
+    ∙ ap (λ (es : List PacketEvent). record { side = d; act = timeout true } ∷ es) both
 
 -- ---- read off at the ends that follow
 end-follows : (d : Side) {w : World} {s : Both Peer} → BothFollow w s → Follows (endAt d w) (endAt d s)

@@ -87,8 +87,9 @@ module _ {d : Effect} {l : Link} {before later : Octets} {r : Outcome} (m : Meet
       → Follows (called r later accepted delivered n e) b
   follows-called {e} {a} {b} {ks} {accepted} {delivered} {n} f c =
       let p : copiedBy r later ≡ map encode ks = copiedBy-packets d l before later r m ∙ c .packets in
+      let given : view (r .link) ≡ modelOf b = m .returns .link ∙ c .model in
       record {
-        model = m .returns .link ∙ c .model;
+        model = given;
         line = (λ i. f .line i ++ p i) ∙ sym (map-append encode (a .line) ks) ∙ ap (map encode) (sym (c .line));
         accepted = ap (λ (t : Packets). t ++ accepted) (f .accepted) ∙ sym (c .accepts);
         delivered = ap (λ (t : Packets). t ++ delivered) (f .delivered) ∙ sym (c .delivers);

@@ -68,8 +68,9 @@ waitsAt-back right right a f h = waits-back (follow-mirror f) a h
 pub timerWaits-follow : (d : Side) (es : List Event) {w : World} {s : Both Peer} → BothFollow w s → (h : History es w) → TimerWaits d es w h
     → PacketTimerWaits rules d (map eventOf es) s
 timerWaits-follow d [] f h t = tt
-timerWaits-follow d (e ∷ es) f h t =
-    (waitsAt-follow d (e .side) (e .act) f (t .0), timerWaits-follow d es (stepAt-follows (e .side) (e .act) f (h .0)) (h .1) (t .1))
+timerWaits-follow d (e ∷ es) {w} f h t =
+    let before : WaitsAt d (e .side) (e .act) w = t .0 in
+    (waitsAt-follow d (e .side) (e .act) f before, timerWaits-follow d es (stepAt-follows (e .side) (e .act) f (h .0)) (h .1) (t .1))
 
 pub timerWaits-back : (d : Side) (es : List Event) {w : World} {s : Both Peer} → BothFollow w s → (h : History es w) → PacketTimerWaits rules d (map eventOf es) s
     → TimerWaits d es w h

@@ -116,13 +116,16 @@ module _ {w : World} {s : Both Peer} (f : BothFollow w s) {before later : Octets
   arrival-follows k ks h hs {d} m {b} {js} n c e =
       let a : r .answer ≡ _ = m .returns .answer in
       let up : deliveredBy (encode k) (r .answer) ≡ cond (dataBit k && eqb (d .code) done) (deliveredPart (d .delivered) (encode k) ∷ []) [] =
-      λ i. cond (isData-encode k h i && eqb (a i .code) done) (deliveredPart (a i .delivered) (encode k) ∷ []) [] in
-      let gone : lostBy (isDack (encode k)) (r .answer) ≡ one (dackBit k && eqb (d .code) shortReply) = λ i. one (isDack-encode k h i && eqb (a i .code) shortReply) in
+      ap (λ (t : Answer). deliveredBy (encode k) t) a
+      ∙ ap (λ (t : Bool). cond (t && eqb (d .code) done) (deliveredPart (d .delivered) (encode k) ∷ []) []) (isData-encode k h) in
+      let dack-gone : lostBy (isDack (encode k)) (r .answer) ≡ one (dackBit k && eqb (d .code) shortReply) =
+      ap (λ (t : Answer). lostBy (isDack (encode k)) t) a ∙ ap (λ (t : Bool). one (t && eqb (d .code) shortReply)) (isDack-encode k h) in
+      let data-gone : lostBy (isData (encode k)) (r .answer) ≡ one (dataBit k && eqb (d .code) shortReply) =
+      ap (λ (t : Answer). lostBy (isData (encode k)) t) a ∙ ap (λ (t : Bool). one (t && eqb (d .code) shortReply)) (isData-encode k h) in
       record {
         left = follows-called m (f .left)
-            (subst (λ (t : Packets). Becomes d (s .left) b js [] t (lostBy (isDack (encode k)) (r .answer))) (sym up) (subst (Becomes d (s .left) b js [] (cond (dataBit k && eqb (d .code) done) (deliveredPart (d .delivered) (encode k) ∷ []) [])) (sym gone) c));
-        right = follows-relined (f .right) (map encode ks) ks _ n refl hs
-            (e ∙ sym (λ i. s .right .sender .lost + one (isData-encode k h i && eqb (a i .code) shortReply)));
+            (subst (λ (t : Packets). Becomes d (s .left) b js [] t (lostBy (isDack (encode k)) (r .answer))) (sym up) (subst (Becomes d (s .left) b js [] (cond (dataBit k && eqb (d .code) done) (deliveredPart (d .delivered) (encode k) ∷ []) [])) (sym dack-gone) c));
+        right = follows-relined (f .right) (map encode ks) ks _ n refl hs (e ∙ ap (λ (t : ℕ). s .right .sender .lost + t) (sym data-gone));
       }
 
   data-follows : (x : ℕ) (p : Octets) (ks : List Packet) → Sound (dataPdu x p) → All Sound ks → (short hit : Bool) → Met w before later r (dataEffect short hit (modelOf (s .left)))

@@ -1,5 +1,5 @@
 -- The invariant of two ends: a flow each way, and marks beside each line. Kept by an accepted payload, by "send all" and by a loss; arrivals
--- are in Arrival. Assumes nothing.
+-- are in Receive. Assumes nothing.
 use Prim.Native.Nat.{ℕ, suc, _+_, _%_, _<_}
 use mathlib.Core.Path.{_≡_, refl, sym, ap, subst, _∙_}
 use mathlib.Core.Logic.{_⊎_, inl, inr}

@@ -1,3 +1,4 @@
+pub mod Cases
 pub mod Rising
 pub mod InFlight
 pub mod Window
@@ -5,7 +6,7 @@ pub mod Count
 pub mod Marks
 pub mod Flow
 pub mod Invariant
-pub mod Arrival
+pub mod Receive
 pub mod SlidingWindow
 pub mod Progress
 pub mod Deciding

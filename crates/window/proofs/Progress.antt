@@ -22,7 +22,7 @@ use Rattle.window.proofs.Count.{Trail, trail-end}
 use Rattle.window.proofs.Marks.{dacksOf}
 use Rattle.window.proofs.Flow.{Assumed, Flow, flow-length}
 use Rattle.window.proofs.Invariant.{Invariant, invariant-mirror, invariant-weaken, invariant-send-all, invariant-idle, drained-marks}
-use Rattle.window.proofs.Arrival.{invariant-arrive}
+use Rattle.window.proofs.Receive.{invariant-arrive}
 use Rattle.window.proofs.SlidingWindow.{invariant-run, invariant-start}
 
 -- ---- lists

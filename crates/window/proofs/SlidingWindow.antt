@@ -15,7 +15,7 @@ use Rattle.window.specs.Events.{Act, offer, timeout, receive, lose, Even
 use Rattle.window.specs.Claim.{OneWay, SlidingWindow}
 use Rattle.window.proofs.Flow.{assumed, Flow, flow-bound}
 use Rattle.window.proofs.Invariant.{Invariant, invariant-mirror, invariant-weaken, invariant-accept, invariant-send-all, invariant-lose}
-use Rattle.window.proofs.Arrival.{invariant-arrive, invariant-refuse}
+use Rattle.window.proofs.Receive.{invariant-arrive, invariant-refuse}
 
 module _ (r : Rules) (law : Lawful r) where
   right-true : (a b : Bool) → (a && b) ≡ true → b ≡ true
