@@ -6,8 +6,9 @@ ghost use mathlib.Core.List.{[], map, flatten};
 ghost use Prim.Native.Nat.{_+_, _-_, _≤_, _<_};
 ghost use lib.ListN.{length, take, drop};
 ghost use lib.Seq.{sets};
-ghost use Rattle.dlc_packet.specs.Packet.{dataPacket};
-ghost use Rattle.dlc_queue.specs.Queue.{octetsOf, payloads, allShort, formed, Pushed, Removed};
+ghost use Rattle.dlc_packet.specs.Numbers.{modulus};
+ghost use Rattle.dlc_packet.specs.Packet.{maxPayload, dataPacket};
+ghost use Rattle.dlc_queue.specs.Queue.{slots, replySize, octetsOf, payloads, allShort, formed, Pushed, Removed};
 ghost use Rattle.dlc_queue.specs.Send.{dataPackets, Sent, Written};
 use dlc_packet::DATA;
 use dlc_packet::MAX_PAYLOAD;
@@ -114,13 +115,13 @@ impl Queue {
 }
 
 // Whether none of the first n payloads is too long.
-fn all_short(slots: [Payload; Queue::SLOTS], n: usize) -> bool
-    requires { ⌜ n ≤ 7 ⌝ }
-    ensures { λ r. ⌜ r ≡ allShort (take n slots) ⌝ }
+fn all_short(q: [Payload; Queue::SLOTS], n: usize) -> bool
+    requires { ⌜ n ≤ slots ⌝ }
+    ensures { λ r. ⌜ r ≡ allShort (take n q) ⌝ }
 {
     let mut i = 0;
     while i < n {
-        let p = slots[i];
+        let p = q[i];
         let len = p.len;
         if MAX_PAYLOAD < len {
             return false;
@@ -132,7 +133,7 @@ fn all_short(slots: [Payload; Queue::SLOTS], n: usize) -> bool
 
 // A payload that holds the octets of p.
 fn payload_of(p: &[u8]) -> Payload
-    requires { ⌜ length (now p) ≤ 256 ⌝ }
+    requires { ⌜ length (now p) ≤ maxPayload ⌝ }
     ensures { λ r. ⌜ (r .len ≡ length (now (p .entry))) × (octetsOf r ≡ now (p .entry)) ⌝ }
 {
     let mut octets = [0u8; MAX_PAYLOAD];
@@ -148,15 +149,15 @@ fn payload_of(p: &[u8]) -> Payload
 }
 
 // The first count payloads without the n oldest, moved down to the front.
-fn moved_down(slots: [Payload; Queue::SLOTS], count: usize, n: usize) -> [Payload; Queue::SLOTS]
-    requires { ⌜ (n ≤ count) × (count ≤ 7) ⌝ }
-    ensures { λ r. ⌜ take (count - n) r ≡ drop n (take count slots) ⌝ }
+fn moved_down(q: [Payload; Queue::SLOTS], count: usize, n: usize) -> [Payload; Queue::SLOTS]
+    requires { ⌜ (n ≤ count) × (count ≤ slots) ⌝ }
+    ensures { λ r. ⌜ take (count - n) r ≡ drop n (take count q) ⌝ }
 {
-    let mut r = slots;
+    let mut r = q;
     let mut i = 0;
     let mut j = n;
     while j < count {
-        let p = slots[j];
+        let p = q[j];
         r[i] = p;
         i += 1;
         j += 1;
@@ -166,7 +167,7 @@ fn moved_down(slots: [Payload; Queue::SLOTS], count: usize, n: usize) -> [Payloa
 
 // Writes the octets of p into out from index at on.
 fn copy_octets(p: Payload, out: &mut [u8], at: usize)
-    requires { ⌜ (p .len ≤ 256) × (at + p .len ≤ length (now out)) ⌝ }
+    requires { ⌜ (p .len ≤ maxPayload) × (at + p .len ≤ length (now out)) ⌝ }
     ensures { λ _. ⌜ now (out .exit) ≡ sets (now (out .entry)) at (octetsOf p) ⌝ }
 {
     let len = p.len;
@@ -181,7 +182,7 @@ fn copy_octets(p: Payload, out: &mut [u8], at: usize)
 
 // Writes DATA x with the octets of p at index at, and returns the packet's length.
 fn put_data(p: Payload, x: u8, out: &mut [u8], at: usize) -> usize
-    requires { ⌜ (p .len ≤ 256) × ((x < 16) × (at + 1 + p .len ≤ length (now out))) ⌝ }
+    requires { ⌜ (p .len ≤ maxPayload) × ((x < modulus) × (at + 1 + p .len ≤ length (now out))) ⌝ }
     ensures { λ r. ⌜ (r ≡ 1 + p .len) × (now (out .exit) ≡ sets (now (out .entry)) at (dataPacket x (octetsOf p))) ⌝ }
 {
     out[at] = DATA + x;
@@ -192,20 +193,20 @@ fn put_data(p: Payload, x: u8, out: &mut [u8], at: usize) -> usize
 
 // Writes the first n payloads as DATA packets with the numbers from base on, and returns their lengths.
 fn send_slots(
-    slots: [Payload; Queue::SLOTS],
+    q: [Payload; Queue::SLOTS],
     n: usize,
     base: u8,
     out: &mut [u8],
 ) -> [usize; Queue::SLOTS]
-    requires { ⌜ (n ≤ 7) × ((allShort (take n slots) ≡ true) × ((base < 16) × (1799 ≤ length (now out)))) ⌝ }
-    ensures { λ r. ⌜ Written (dataPackets base (map octetsOf (take n slots))) (now (out .entry)) (now (out .exit)) r ⌝ }
+    requires { ⌜ (n ≤ slots) × ((allShort (take n q) ≡ true) × ((base < modulus) × (replySize ≤ length (now out)))) ⌝ }
+    ensures { λ r. ⌜ Written (dataPackets base (map octetsOf (take n q))) (now (out .entry)) (now (out .exit)) r ⌝ }
 {
     let mut lengths = [0usize; Queue::SLOTS];
     let mut x = base;
     let mut at = 0;
     let mut i = 0;
     while i < n {
-        let p = slots[i];
+        let p = q[i];
         let k = put_data(p, x, out, at);
         lengths[i] = k;
         at += k;

@@ -1,0 +1,30 @@
+use mathlib.Core.Path.{_≡_, sym, ap, _∙_}
+use Rattle.dlc.proofs.Parts.{length-queue}
+use Rattle.dlc.proofs.Views.{view-without}
+use native.Mathlib.Omega.{arith}
+use borrow.Author.Needs.{needs}
+use Rattle.dlc.proofs.Link.without.Statement.{statement}
+use Rattle.dlc.proofs.Link.without.Tie as tie
+use Rattle.dlc.proofs.Link.without.Reads as reads
+use Rattle.dlc.proofs.Link.without.Lts as lts
+use Rattle.dlc.proofs.open_state.Reads as open-state-reads
+use Rattle.dlc_packet.proofs.advanced.Reads as advanced-reads
+use Rattle.dlc_queue.proofs.Queue.remove.Reads as remove-reads
+
+remove-requires : tie.Need-remove-requires
+remove-requires c κs = search needs
+
+open-state-requires : tie.Need-open-state-requires
+open-state-requires c κs = search needs
+
+advanced-requires : tie.Need-advanced-requires
+advanced-requires c κs = search needs
+
+returns : tie.Need-returns
+returns c =
+    let l = c .before .before .before .before .args .self in
+    view-without l (c .before .before .before .before .pre .0) (c .before .before .remove .result) (c .before .before .before .before .args .n) (c .advanced .result) (c .before .open-state .result) (length-queue l _ (c .before .before .before .before .good .0) (c .before .before .before .before .pre .0)) (c .before .before .before .before .pre .1 .1)
+    (c .before .before .remove .ensures) (c .advanced .ensures) (c .before .open-state .ensures)
+
+pub without-spec : {M : Type 1} → statement M
+without-spec = tie.close (tie.spec remove-requires open-state-requires advanced-requires returns)
