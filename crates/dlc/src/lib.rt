@@ -1,4 +1,5 @@
 // One end of a DLC link, by value: each event takes a link and gives it back with an answer.
+// Here: the types, the constructor, and the rows of the step table; the four events are in events.rt.
 // Definitions: specs/ (Model: a link as the paper has it; Events: the step table; Calls: what each call promises).
 ghost use mathlib.Core.Path.{_≡_};
 ghost use mathlib.Core.Bool.{true, false, cond};
@@ -6,16 +7,15 @@ ghost use mathlib.Core.List.{[], _∷_};
 ghost use Prim.Native.Nat.{_≤_, _<_};
 ghost use lib.ListN.{length};
 ghost use lib.Dec.{eqb};
-ghost use Rattle.common.specs.Refusals.{guarded};
 ghost use Rattle.dlc_packet.specs.Numbers.{modulus, distance};
 ghost use Rattle.dlc_packet.specs.Packet.{maxPayload};
 ghost use Rattle.dlc_queue.specs.Queue.{slots, replySize};
-ghost use Rattle.dlc.specs.Answers.{done};
 ghost use Rattle.dlc.specs.Model.{stateFits, wellFormed, view, fresh};
-ghost use Rattle.dlc.specs.Events.{isOpen, callRefusals, effect, cleared, resetAckStep, judged, dataStep, without, acknowledged, dackStep, timerStep, withPayload};
-ghost use Rattle.dlc.specs.Calls.{given, Returns, Meets, OneSent, StartCall, TimerCall, PayloadCall, ArrivalCall, deliveredPart};
-use dlc_packet::Kind;
+ghost use Rattle.dlc.specs.Events.{isOpen, effect, cleared, resetAckStep, judged, dataStep, without, acknowledged, dackStep, timerStep, withPayload};
+ghost use Rattle.dlc.specs.Calls.{given, Returns, Meets, OneSent, deliveredPart};
 use dlc_queue::Queue;
+
+mod events;
 
 // The numbers that events answer; all but DONE and OTHER_NUMBER are refusals, which change nothing.
 pub const DONE: u8 = 0;
@@ -109,97 +109,6 @@ impl Link {
             state_fits(s, n, base, expected)
         } else {
             false
-        }
-    }
-
-    // The upper layer starts the link.
-    pub fn start(mut self, reply: &mut [u8]) -> Outcome
-        ensures { λ r. ⌜ StartCall self (now (reply .entry)) (now (reply .exit)) r ⌝ }
-    {
-        let c = self.refusal(reply.len());
-        if c != DONE {
-            return silent(self, c);
-        }
-        let s = self.state;
-        match s {
-            State::Idle => silent(self.in_state(State::Reset), DONE),
-            State::Reset => silent(self, NO_ENTRY),
-            State::Data => silent(self, NO_ENTRY),
-            State::Wait => silent(self, NO_ENTRY),
-        }
-    }
-
-    // The timer runs out.
-    pub fn timer(mut self, reply: &mut [u8]) -> Outcome
-        ensures { λ r. ⌜ TimerCall self (now (reply .entry)) (now (reply .exit)) r ⌝ }
-    {
-        let c = self.refusal(reply.len());
-        if c != DONE {
-            return silent(self, c);
-        }
-        let s = self.state;
-        match s {
-            State::Idle => silent(self, NO_ENTRY),
-            State::Reset => send_one(self, DONE, false, false, dlc_packet::RESET, reply),
-            State::Data => silent(self, NO_ENTRY),
-            State::Wait => self.send_all(reply),
-        }
-    }
-
-    // The upper layer hands a payload down.
-    pub fn payload(mut self, p: &[u8], reply: &mut [u8]) -> Outcome
-        ensures { λ r. ⌜ PayloadCall self (now (p .entry)) (now (reply .entry)) (now (reply .exit)) r ⌝ }
-    {
-        let c = self.refusal(reply.len());
-        if c != DONE {
-            return silent(self, c);
-        }
-        if Link::MAX_PAYLOAD < p.len() {
-            return silent(self, TOO_LONG);
-        }
-        let s = self.state;
-        if is_open(s) {
-            let q = self.queue;
-            let n = q.count;
-            if Link::SLOTS <= n {
-                return silent(self, QUEUE_FULL);
-            }
-            silent(self.with_payload(p), DONE)
-        } else {
-            silent(self, NOT_OPEN)
-        }
-    }
-
-    // A packet arrives.
-    pub fn arrival(mut self, packet: &[u8], reply: &mut [u8]) -> Outcome
-        ensures { λ r. ⌜ ArrivalCall self (now (packet .entry)) (now (reply .entry)) (now (reply .exit)) r ⌝ }
-    {
-        let c = self.refusal(reply.len());
-        if c != DONE {
-            return silent(self, c);
-        }
-        let kind = dlc_packet::kind_of(packet);
-        match kind {
-            Kind::Invalid => silent(self, BAD_PACKET),
-            Kind::Reset => self.clear(reply),
-            Kind::ResetAck => self.reset_ack(),
-            Kind::Data(x) => self.data(x, reply),
-            Kind::Dack(x) => self.dack(x),
-        }
-    }
-
-    // The refusal that all calls share: ILL_FORMED, then SHORT_REPLY; DONE where neither applies.
-    fn refusal(self, room: usize) -> u8
-        ensures { λ r. ⌜ r ≡ guarded (callRefusals (view self) room) (λ n. n) done ⌝ }
-    {
-        if self.well_formed() {
-            if room < Link::REPLY {
-                SHORT_REPLY
-            } else {
-                DONE
-            }
-        } else {
-            ILL_FORMED
         }
     }
 

@@ -1,10 +1,9 @@
+-- `open_state`: by the count. Assumes nothing.
 use borrow.Author.Tests.{eq-eqb, ne-eqb}
 use native.Mathlib.Omega.{arith}
 use borrow.Author.Needs.{needs}
 use Rattle.dlc.proofs.open_state.Statement.{statement}
 use Rattle.dlc.proofs.open_state.Tie as tie
-use Rattle.dlc.proofs.open_state.Reads as reads
-use Rattle.dlc.proofs.open_state.Lts as lts
 
 returns : tie.Need-returns
 returns c = simp (eq-eqb _ _ (c .if1 .taken))

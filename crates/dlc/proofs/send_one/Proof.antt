@@ -1,3 +1,4 @@
+-- `send_one`: one octet at the front of the buffer. Assumes nothing.
 use mathlib.Core.Path.{refl, sym, _∙_}
 use mathlib.Core.List.{[], _∷_}
 use denote.Ref.{now}
@@ -6,8 +7,6 @@ use native.Mathlib.Omega.{arith}
 use borrow.Author.Needs.{needs}
 use Rattle.dlc.proofs.send_one.Statement.{statement}
 use Rattle.dlc.proofs.send_one.Tie as tie
-use Rattle.dlc.proofs.send_one.Reads as reads
-use Rattle.dlc.proofs.send_one.Lts as lts
 
 slice-write-reply : tie.Need-slice-write-reply
 slice-write-reply c = search needs

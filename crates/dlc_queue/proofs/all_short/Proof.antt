@@ -1,3 +1,4 @@
+-- `all_short`: a search for a payload that is too long; what is left to be searched decides. Assumes nothing.
 use lib.ListN.{drop-of-length-le}
 use borrow.Author.Needs.{needs}
 use mathlib.Core.Path.{refl, sym, ap, _∙_}
@@ -10,8 +11,6 @@ use lib.ListN.{length, take, drop}
 use Rattle.dlc_queue.specs.Queue.{allShort}
 use Rattle.dlc_queue.proofs.all_short.Statement.{statement}
 use Rattle.dlc_queue.proofs.all_short.Tie as tie
-use Rattle.dlc_queue.proofs.all_short.Reads as reads
-use Rattle.dlc_queue.proofs.all_short.Lts as lts
 
 abbrev Inv-loop : tie.InvT-loop
 Inv-loop n q i₀ i = (i ≤ n) × (allShort (take n q) ≡ allShort (drop i (take n q)))
@@ -19,19 +18,15 @@ Inv-loop n q i₀ i = (i ≤ n) × (allShort (take n q) ≡ allShort (drop i (ta
 abbrev μ-loop : tie.MeasureT-loop
 μ-loop n q i₀ i = n - i
 
--- src/lib.rt:48:5
 loop-holds : tie.Need-loop-holds Inv-loop μ-loop
 loop-holds c = (search needs, refl)
 
--- src/lib.rt:49:17
 mul-p : tie.Need-mul-p Inv-loop μ-loop
 mul-p c = omega arith
 
--- src/lib.rt:49:17
 array-copy-out-p : tie.Need-array-copy-out-p Inv-loop μ-loop
 array-copy-out-p c = omega arith
 
--- src/lib.rt:52:13
 returns : tie.Need-returns Inv-loop μ-loop
 returns c =
     let n = c .before .before .before .before .args .n in
@@ -43,15 +38,12 @@ returns c =
     let h : i < length (take n q) = rw length-take-le hi in
     sym (c .before .before .before .loop .inv .1 ∙ short-stops (take n q) i h (rw getD-take (c .if1 .taken)))
 
--- src/lib.rt:54:9
 add-i : tie.Need-add-i Inv-loop μ-loop
 add-i c = omega arith
 
--- src/lib.rt:48:5
 loop-less : tie.Need-loop-less Inv-loop μ-loop
 loop-less c = omega arith
 
--- src/lib.rt:48:5
 loop-again : tie.Need-loop-again Inv-loop μ-loop
 loop-again c =
     let n = c .before .before .before .before .args .n in
@@ -63,7 +55,6 @@ loop-again c =
     let h : i < length (take n q) = rw length-take-le hi in
     (omega arith, c .before .before .before .loop .inv .1 ∙ short-goes (take n q) i h (rw getD-take (c .if1 .left)))
 
--- src/lib.rt:43:1
 returns-2 : tie.Need-returns-2 Inv-loop μ-loop
 returns-2 c =
     let n = c .before .before .args .n in

@@ -10,8 +10,6 @@ use Rattle.dlc_queue.specs.Queue.{octetsOf}
 use Rattle.dlc_queue.proofs.Shape.{octets-long}
 use Rattle.dlc_queue.proofs.copy_octets.Statement.{statement}
 use Rattle.dlc_queue.proofs.copy_octets.Tie as tie
-use Rattle.dlc_queue.proofs.copy_octets.Reads as reads
-use Rattle.dlc_queue.proofs.copy_octets.Lts as lts
 
 abbrev Inv-loop : tie.InvT-loop
 Inv-loop out₀ at p len j₀ o₀ out j o = (o ≡ at + j) × ((j ≤ p .len) × ((length out ≡ length out₀) × (sets out o (drop j (octetsOf p)) ≡ sets out₀ at (octetsOf p))))

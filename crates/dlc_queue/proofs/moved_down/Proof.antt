@@ -1,3 +1,4 @@
+-- `moved_down`: payloads are moved to the front, one slot a turn. Assumes nothing.
 use Rattle.dlc_queue.proofs.Lists.{drop-take}
 use Prim.Native.Nat.{ℕ, suc, _+_, _-_, _<_, _≤_}
 use native.Mathlib.Omega.{arith}
@@ -11,8 +12,6 @@ use Rattle.dlc_queue.specs.declared.Payload.{Payload}
 use Rattle.dlc_queue.proofs.Short.{none}
 use Rattle.dlc_queue.proofs.moved_down.Statement.{statement}
 use Rattle.dlc_queue.proofs.moved_down.Tie as tie
-use Rattle.dlc_queue.proofs.moved_down.Reads as reads
-use Rattle.dlc_queue.proofs.moved_down.Lts as lts
 
 abbrev Inv-loop : tie.InvT-loop
 Inv-loop n k q r₀ i₀ j₀ r i j = (j ≡ k + i) × ((j ≤ n) × ((length r ≡ 7) × (take i r ≡ take i (drop k q))))
@@ -20,39 +19,30 @@ Inv-loop n k q r₀ i₀ j₀ r i j = (j ≡ k + i) × ((j ≤ n) × ((length r 
 abbrev μ-loop : tie.MeasureT-loop
 μ-loop n k q r₀ i₀ j₀ r i j = n - j
 
--- src/lib.rt:349:5
 loop-holds : tie.Need-loop-holds Inv-loop μ-loop
 loop-holds c = (omega arith, (omega arith, (search needs, refl)))
 
--- src/lib.rt:350:17
 mul-p : tie.Need-mul-p Inv-loop μ-loop
 mul-p c = omega arith
 
--- src/lib.rt:350:17
 array-copy-out-p : tie.Need-array-copy-out-p Inv-loop μ-loop
 array-copy-out-p c = omega arith
 
--- src/lib.rt:351:9
 mul-r : tie.Need-mul-r Inv-loop μ-loop
 mul-r c = omega arith
 
--- src/lib.rt:351:9
 array-set-from-r : tie.Need-array-set-from-r Inv-loop μ-loop
 array-set-from-r c = omega arith
 
--- src/lib.rt:352:9
 add-i : tie.Need-add-i Inv-loop μ-loop
 add-i c = omega arith
 
--- src/lib.rt:353:9
 add-j : tie.Need-add-j Inv-loop μ-loop
 add-j c = omega arith
 
--- src/lib.rt:349:5
 loop-less : tie.Need-loop-less Inv-loop μ-loop
 loop-less c = omega arith
 
--- src/lib.rt:349:5
 loop-again : tie.Need-loop-again Inv-loop μ-loop
 loop-again c =
     let s = c .before .before .before in
@@ -77,7 +67,6 @@ loop-again c =
       ),
     )
 
--- src/lib.rt:342:1
 returns : tie.Need-returns Inv-loop μ-loop
 returns c =
     let s = c .before .before in

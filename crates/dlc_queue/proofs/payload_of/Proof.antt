@@ -1,3 +1,4 @@
+-- `payload_of`: octets are copied from the front on. Assumes nothing.
 use Prim.Native.Nat.{ℕ, _≤_, _<_, _-_}
 use native.Mathlib.Omega.{arith}
 use native.Mathlib.Numerals.{add-one}
@@ -8,8 +9,6 @@ use lib.ListN.{length, take, drop, getD, length-set}
 use lib.Seq.{take-suc-set, take-suc, take-all}
 use Rattle.dlc_queue.proofs.payload_of.Statement.{statement}
 use Rattle.dlc_queue.proofs.payload_of.Tie as tie
-use Rattle.dlc_queue.proofs.payload_of.Reads as reads
-use Rattle.dlc_queue.proofs.payload_of.Lts as lts
 
 abbrev Inv-loop : tie.InvT-loop
 Inv-loop p octets₀ i₀ octets i = (i ≤ length p) × ((length octets ≡ 256) × (take i octets ≡ take i p))
@@ -17,27 +16,21 @@ Inv-loop p octets₀ i₀ octets i = (i ≤ length p) × ((length octets ≡ 256
 abbrev μ-loop : tie.MeasureT-loop
 μ-loop p octets₀ i₀ octets i = length p - i
 
--- src/lib.rt:87:5
 loop-holds : tie.Need-loop-holds Inv-loop μ-loop
 loop-holds c = (search needs, (refl, refl))
 
--- src/lib.rt:88:21
 shared-slice-read-octets : tie.Need-shared-slice-read-octets Inv-loop μ-loop
 shared-slice-read-octets c = omega arith
 
--- src/lib.rt:88:9
 array-write-octets : tie.Need-array-write-octets Inv-loop μ-loop
 array-write-octets c = omega arith
 
--- src/lib.rt:89:9
 add-i : tie.Need-add-i Inv-loop μ-loop
 add-i c = omega arith
 
--- src/lib.rt:87:5
 loop-less : tie.Need-loop-less Inv-loop μ-loop
 loop-less c = omega arith
 
--- src/lib.rt:87:5
 loop-again : tie.Need-loop-again Inv-loop μ-loop
 loop-again c =
     let l = c .before .before .loop in
@@ -46,7 +39,6 @@ loop-again c =
     let ho : l .i < length (l .octets) = omega arith in
     (omega arith, (length-set (l .octets) (l .i) (getD p (l .i) 0) ∙ l .inv .1 .0, rw add-one (take-suc-set (l .octets) (l .i) (getD p (l .i) 0) ho ∙ ap (λ (t : List ℕ). t ++ (getD p (l .i) 0 ∷ [])) (l .inv .1 .1) ∙ sym (take-suc p (l .i) 0 hp))))
 
--- src/lib.rt:81:1
 returns : tie.Need-returns Inv-loop μ-loop
 returns c =
     let l = c .before .loop in

@@ -1,3 +1,4 @@
+-- `put_data`: the control octet, and then the payload behind it. Assumes nothing.
 use Prim.Native.Nat.{_+_}
 use native.Mathlib.Numerals.{add-one}
 use mathlib.Core.Path.{_≡_, refl, sym, ap, _∙_}
@@ -8,9 +9,6 @@ use native.Mathlib.Omega.{arith}
 use borrow.Author.Needs.{needs}
 use Rattle.dlc_queue.proofs.put_data.Statement.{statement}
 use Rattle.dlc_queue.proofs.put_data.Tie as tie
-use Rattle.dlc_queue.proofs.put_data.Reads as reads
-use Rattle.dlc_queue.proofs.put_data.Lts as lts
-use Rattle.dlc_queue.proofs.copy_octets.Reads as copy-octets-reads
 
 add-out : tie.Need-add-out
 add-out c = search needs

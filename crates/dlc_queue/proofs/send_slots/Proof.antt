@@ -7,7 +7,6 @@ use lib.ListN.{length, take, drop, getD, set, length-set, length-map, drop-of-le
 use lib.Seq.{sets, getD-take, length-take-le}
 use Rattle.dlc_packet.specs.Numbers.{advance}
 use Rattle.dlc_packet.specs.Packet.{dataPacket}
-use Rattle.dlc_packet.proofs.advanced.Reads as advanced-reads
 use Rattle.dlc_queue.specs.declared.Payload.{Payload}
 use Rattle.dlc_queue.specs.Queue.{octetsOf}
 use Rattle.dlc_queue.specs.Send.{dataPackets}
@@ -16,9 +15,6 @@ use Rattle.dlc_queue.proofs.Short.{none, short-at}
 use Rattle.dlc_queue.proofs.Sending.{Sending, next, reply-next, counts-next, sent, short-payloads}
 use Rattle.dlc_queue.proofs.send_slots.Statement.{statement}
 use Rattle.dlc_queue.proofs.send_slots.Tie as tie
-use Rattle.dlc_queue.proofs.send_slots.Reads as reads
-use Rattle.dlc_queue.proofs.send_slots.Lts as lts
-use Rattle.dlc_queue.proofs.put_data.Reads as put-data-reads
 
 abbrev Inv-loop : tie.InvT-loop
 Inv-loop n base out₀ slots lengths₀ x₀ at₀ i₀ out lengths x at i = Sending (map octetsOf (take n slots)) base out₀ out lengths x at i

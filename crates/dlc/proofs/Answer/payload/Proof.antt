@@ -1,3 +1,4 @@
+-- `Answer::payload`: a packet without its control octet. Assumes nothing.
 use Prim.Native.Nat.{ℕ, _-_, _≤_}
 use mathlib.Core.Path.{sym}
 use mathlib.Core.List.{List}
@@ -8,8 +9,6 @@ use native.Mathlib.Omega.{arith}
 use borrow.Author.Needs.{needs}
 use Rattle.dlc.proofs.Answer.payload.Statement.{statement}
 use Rattle.dlc.proofs.Answer.payload.Tie as tie
-use Rattle.dlc.proofs.Answer.payload.Reads as reads
-use Rattle.dlc.proofs.Answer.payload.Lts as lts
 
 sub-result : tie.Need-sub-result
 sub-result c = search needs

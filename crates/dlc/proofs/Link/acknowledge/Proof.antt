@@ -1,3 +1,4 @@
+-- `Link::acknowledge`: distance 0, over the queue's length, or within it. Assumes nothing.
 use Prim.Native.Nat.{ℕ, _<_, _≤_}
 use native.Mathlib.Nat.{pos-of-ne-zero}
 use mathlib.Core.Path.{_≡_, sym, ap, _∙_}
@@ -11,17 +12,12 @@ use native.Mathlib.Omega.{arith}
 use borrow.Author.Needs.{needs}
 use Rattle.dlc.proofs.Link.acknowledge.Statement.{statement}
 use Rattle.dlc.proofs.Link.acknowledge.Tie as tie
-use Rattle.dlc.proofs.Link.acknowledge.Reads as reads
-use Rattle.dlc.proofs.Link.acknowledge.Lts as lts
-use Rattle.dlc.proofs.Link.without.Reads as without-reads
-use Rattle.dlc.proofs.silent.Reads as silent-reads
-use Rattle.dlc_packet.proofs.dack_distance.Reads as dack-distance-reads
 
 dack-distance-requires : tie.Need-dack-distance-requires
-dack-distance-requires c κs = search needs
+dack-distance-requires c κs = tt
 
 silent-requires : tie.Need-silent-requires
-silent-requires c κs = search needs
+silent-requires c κs = tt
 
 returns : tie.Need-returns
 returns c =
@@ -32,7 +28,7 @@ cast-if2 : tie.Need-cast-if2
 cast-if2 c = search needs
 
 silent-requires-2 : tie.Need-silent-requires-2
-silent-requires-2 c κs = search needs
+silent-requires-2 c κs = tt
 
 returns-2 : tie.Need-returns-2
 returns-2 c =
@@ -46,7 +42,7 @@ without-requires : tie.Need-without-requires
 without-requires c κs = (c .before .before .before .before .pre .0, (c .before .before .before .before .pre .1, c .if2 .left))
 
 silent-requires-3 : tie.Need-silent-requires-3
-silent-requires-3 c κs = search needs
+silent-requires-3 c κs = tt
 
 returns-3 : tie.Need-returns-3
 returns-3 c =

@@ -1,3 +1,4 @@
+-- `Link::arrival`: the shared refusals, and then the row of the table by the packet's kind. Assumes nothing.
 use Prim.Native.Nat.{ℕ, _≤_}
 use mathlib.Core.Path.{_≡_, sym, _∙_}
 use mathlib.Core.Bool.{true}
@@ -13,15 +14,6 @@ use native.Mathlib.Omega.{arith}
 use borrow.Author.Needs.{needs}
 use Rattle.dlc.proofs.Link.arrival.Statement.{statement}
 use Rattle.dlc.proofs.Link.arrival.Tie as tie
-use Rattle.dlc.proofs.Link.arrival.Reads as reads
-use Rattle.dlc.proofs.Link.arrival.Lts as lts
-use Rattle.dlc.proofs.Link.clear.Reads as clear-reads
-use Rattle.dlc.proofs.Link.dack.Reads as dack-reads
-use Rattle.dlc.proofs.Link.data.Reads as data-reads
-use Rattle.dlc.proofs.Link.refusal.Reads as refusal-reads
-use Rattle.dlc.proofs.Link.reset_ack.Reads as reset-ack-reads
-use Rattle.dlc.proofs.silent.Reads as silent-reads
-use Rattle.dlc_packet.proofs.kind_of.Reads as kind-of-reads
 
 -- past the shared refusals the link is well formed, the buffer has room, and the packet's kind decides
 abbrev S : tie.Else1 → tie.Start
@@ -40,22 +32,22 @@ row c {k} e =
     arrival-step (view (S b .args .self)) (length (now (S b .args .reply))) (b .before .refusal .result) (b .before .refusal .ensures) (b .if1 .left) (now (S b .args .packet)) k (sym (c .kind-of .ensures) ∙ e)
 
 refusal-requires : tie.Need-refusal-requires
-refusal-requires c κs = search needs
+refusal-requires c κs = tt
 
 silent-requires : tie.Need-silent-requires
-silent-requires c κs = search needs
+silent-requires c κs = tt
 
 returns : tie.Need-returns
 returns c = refused-meets _ _ (c .before .before .refusal .result) _ _ (arrival-refused (view (c .before .before .before .before .before .args .self)) (length (now (c .before .before .before .before .before .args .reply))) (c .before .before .refusal .result) (c .before .before .refusal .ensures) (c .before .if1 .taken) (now (c .before .before .before .before .before .args .packet))) (c .silent .ensures)
 
 kind-of-requires : tie.Need-kind-of-requires
-kind-of-requires c κs = search needs
+kind-of-requires c κs = tt
 
 enum-told : tie.Need-enum-told
 enum-told c = search needs
 
 silent-requires-2 : tie.Need-silent-requires-2
-silent-requires-2 c κs = search needs
+silent-requires-2 c κs = tt
 
 enum-told-2 : tie.Need-enum-told-2
 enum-told-2 c = search needs

@@ -1,3 +1,4 @@
+-- `Link::clear`: the link as RESET leaves it, and RESET_ACK. Assumes nothing.
 use mathlib.Core.Path.{refl}
 use Rattle.dlc.specs.declared.State.the-variants.{Data}
 use Rattle.dlc.specs.Model.{view}
@@ -8,9 +9,6 @@ use native.Mathlib.Omega.{arith}
 use borrow.Author.Needs.{needs}
 use Rattle.dlc.proofs.Link.clear.Statement.{statement}
 use Rattle.dlc.proofs.Link.clear.Tie as tie
-use Rattle.dlc.proofs.Link.clear.Reads as reads
-use Rattle.dlc.proofs.Link.clear.Lts as lts
-use Rattle.dlc.proofs.send_one.Reads as send-one-reads
 
 send-one-requires : tie.Need-send-one-requires
 send-one-requires c κs = omega (arith, c .before .before .before .pre)

@@ -1,3 +1,4 @@
+-- `Link::data`: a row of the table: open states judge. Assumes nothing.
 use mathlib.Core.Path.{_≡_, sym, _∙_}
 use Rattle.dlc.specs.Model.{view}
 use Rattle.dlc.proofs.Outcomes.{refused-meets, meets-by, data-open, data-closed}
@@ -5,20 +6,15 @@ use native.Mathlib.Omega.{arith}
 use borrow.Author.Needs.{needs}
 use Rattle.dlc.proofs.Link.data.Statement.{statement}
 use Rattle.dlc.proofs.Link.data.Tie as tie
-use Rattle.dlc.proofs.Link.data.Reads as reads
-use Rattle.dlc.proofs.Link.data.Lts as lts
-use Rattle.dlc.proofs.Link.judge.Reads as judge-reads
-use Rattle.dlc.proofs.is_open.Reads as is-open-reads
-use Rattle.dlc.proofs.silent.Reads as silent-reads
 
 is-open-requires : tie.Need-is-open-requires
-is-open-requires c κs = search needs
+is-open-requires c κs = tt
 
 judge-requires : tie.Need-judge-requires
 judge-requires c κs = (c .before .before .before .before .pre .0, (sym (c .before .before .is-open .ensures) ∙ c .before .if1 .taken, c .before .before .before .before .pre .1))
 
 silent-requires : tie.Need-silent-requires
-silent-requires c κs = search needs
+silent-requires c κs = tt
 
 same-length : tie.Need-same-length
 same-length c = search needs

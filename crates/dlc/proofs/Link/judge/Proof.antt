@@ -1,3 +1,4 @@
+-- `Link::judge`: the expected number, or another. Assumes nothing.
 use Prim.Native.Nat.{ℕ, _+_}
 use mathlib.Core.Path.{_≡_, refl, sym, ap, _∙_}
 use mathlib.Core.List.{List, [], _∷_}
@@ -12,17 +13,12 @@ use native.Mathlib.Omega.{arith}
 use borrow.Author.Needs.{needs}
 use Rattle.dlc.proofs.Link.judge.Statement.{statement}
 use Rattle.dlc.proofs.Link.judge.Tie as tie
-use Rattle.dlc.proofs.Link.judge.Reads as reads
-use Rattle.dlc.proofs.Link.judge.Lts as lts
-use Rattle.dlc.proofs.send_one.Reads as send-one-reads
-use Rattle.dlc_packet.proofs.advanced.Reads as advanced-reads
-use Rattle.dlc_packet.proofs.dack_number.Reads as dack-number-reads
 
 advanced-requires : tie.Need-advanced-requires
-advanced-requires c κs = search needs
+advanced-requires c κs = tt
 
 dack-number-requires : tie.Need-dack-number-requires
-dack-number-requires c κs = search needs
+dack-number-requires c κs = tt
 
 add-dack : tie.Need-add-dack
 add-dack c = omega (arith, c .dack-number .ensures, c .before .advanced .ensures)
@@ -31,7 +27,7 @@ send-one-requires : tie.Need-send-one-requires
 send-one-requires c κs = omega (arith, c .before .before .before .before .before .pre .1 .1)
 
 dack-number-requires-2 : tie.Need-dack-number-requires-2
-dack-number-requires-2 c κs = search needs
+dack-number-requires-2 c κs = tt
 
 add-dack-2 : tie.Need-add-dack-2
 add-dack-2 c = omega (arith, c .dack-number2 .ensures, parts (c .before .before .before .args .self) (c .before .before .before .pre .0) .expected)

@@ -1,14 +1,12 @@
+-- `Link::new`: an empty queue makes a fresh link. Assumes nothing.
 use Rattle.dlc.proofs.Views.{view-fresh}
 use native.Mathlib.Omega.{arith}
 use borrow.Author.Needs.{needs}
 use Rattle.dlc.proofs.Link.new.Statement.{statement}
 use Rattle.dlc.proofs.Link.new.Tie as tie
-use Rattle.dlc.proofs.Link.new.Reads as reads
-use Rattle.dlc.proofs.Link.new.Lts as lts
-use Rattle.dlc_queue.proofs.Queue.new.Reads as new-reads
 
 new-requires : tie.Need-new-requires
-new-requires c κs = search needs
+new-requires c κs = tt
 
 returns : tie.Need-returns
 returns c = view-fresh (c .new .result) (c .new .ensures .0)

@@ -1,3 +1,4 @@
+-- `Link::payload`: the refusals in order, and then the queue. Assumes nothing.
 use Prim.Native.Nat.{ℕ, _<_, _≤_}
 use mathlib.Core.Path.{_≡_, sym, _∙_}
 use mathlib.Core.Bool.{true}
@@ -13,28 +14,22 @@ use native.Mathlib.Omega.{arith}
 use borrow.Author.Needs.{needs}
 use Rattle.dlc.proofs.Link.payload.Statement.{statement}
 use Rattle.dlc.proofs.Link.payload.Tie as tie
-use Rattle.dlc.proofs.Link.payload.Reads as reads
-use Rattle.dlc.proofs.Link.payload.Lts as lts
-use Rattle.dlc.proofs.Link.refusal.Reads as refusal-reads
-use Rattle.dlc.proofs.Link.with_payload.Reads as with-payload-reads
-use Rattle.dlc.proofs.is_open.Reads as is-open-reads
-use Rattle.dlc.proofs.silent.Reads as silent-reads
 
 -- past the shared refusals the link is well formed
 ok : (c : tie.Else1) → wellFormed (c .before .before .before .before .args .self) ≡ true
 ok c = call-ok (view (c .before .before .before .before .args .self)) (length (now (c .before .before .before .before .args .reply))) (c .before .refusal .result) (c .before .refusal .ensures) (c .if1 .left)
 
 refusal-requires : tie.Need-refusal-requires
-refusal-requires c κs = search needs
+refusal-requires c κs = tt
 
 silent-requires : tie.Need-silent-requires
-silent-requires c κs = search needs
+silent-requires c κs = tt
 
 returns : tie.Need-returns
 returns c = refused-meets _ _ (c .before .before .refusal .result) _ _ (payload-refused (view (c .before .before .before .before .before .args .self)) (length (now (c .before .before .before .before .before .args .reply))) (c .before .before .refusal .result) (c .before .before .refusal .ensures) (c .before .if1 .taken) (now (c .before .before .before .before .before .args .p))) (c .silent .ensures)
 
 silent-requires-2 : tie.Need-silent-requires-2
-silent-requires-2 c κs = search needs
+silent-requires-2 c κs = tt
 
 returns-2 : tie.Need-returns-2
 returns-2 c =
@@ -42,10 +37,10 @@ returns-2 c =
     refused-meets _ _ 21 _ _ (payload-tooLong (view (s .args .self)) (length (now (s .args .reply))) (c .before .before .before .refusal .result) (c .before .before .before .refusal .ensures) (c .before .before .if1 .left) (now (s .args .p)) (c .before .if2 .taken)) (c .silent2 .ensures)
 
 is-open-requires : tie.Need-is-open-requires
-is-open-requires c κs = search needs
+is-open-requires c κs = tt
 
 silent-requires-3 : tie.Need-silent-requires-3
-silent-requires-3 c κs = search needs
+silent-requires-3 c κs = tt
 
 returns-3 : tie.Need-returns-3
 returns-3 c =
@@ -60,10 +55,10 @@ with-payload-requires : tie.Need-with-payload-requires
 with-payload-requires c κs = (ok (c .before .before .before .before .before), (c .if4 .left, c .before .before .before .before .if2 .left))
 
 silent-requires-4 : tie.Need-silent-requires-4
-silent-requires-4 c κs = search needs
+silent-requires-4 c κs = tt
 
 silent-requires-5 : tie.Need-silent-requires-5
-silent-requires-5 c κs = search needs
+silent-requires-5 c κs = tt
 
 returns-4 : tie.Need-returns-4
 returns-4 c =

@@ -1,15 +1,13 @@
+-- `Link::refusal`: 27, then 26. Assumes nothing.
 use mathlib.Core.Path.{sym, _∙_}
 use borrow.Author.Tests.{lt-ltb, le-ltb}
 use native.Mathlib.Omega.{arith}
 use borrow.Author.Needs.{needs}
 use Rattle.dlc.proofs.Link.refusal.Statement.{statement}
 use Rattle.dlc.proofs.Link.refusal.Tie as tie
-use Rattle.dlc.proofs.Link.refusal.Reads as reads
-use Rattle.dlc.proofs.Link.refusal.Lts as lts
-use Rattle.dlc.proofs.Link.well_formed.Reads as well-formed-reads
 
 well-formed-requires : tie.Need-well-formed-requires
-well-formed-requires c κs = search needs
+well-formed-requires c κs = tt
 
 returns : tie.Need-returns
 returns c = rw (sym (c .before .before .well-formed .ensures) ∙ c .before .if1 .taken, lt-ltb _ _ (c .if2 .taken))

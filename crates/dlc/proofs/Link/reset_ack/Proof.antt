@@ -1,3 +1,4 @@
+-- `Link::reset_ack`: a row of the table. Assumes nothing.
 use mathlib.Core.Path.{_≡_, ap, _∙_}
 use Rattle.dlc.specs.declared.State.{State}
 use Rattle.dlc.specs.declared.State.the-variants.{Data}
@@ -10,37 +11,33 @@ use native.Mathlib.Omega.{arith}
 use borrow.Author.Needs.{needs}
 use Rattle.dlc.proofs.Link.reset_ack.Statement.{statement}
 use Rattle.dlc.proofs.Link.reset_ack.Tie as tie
-use Rattle.dlc.proofs.Link.reset_ack.Reads as reads
-use Rattle.dlc.proofs.Link.reset_ack.Lts as lts
-use Rattle.dlc.proofs.Link.in_state.Reads as in-state-reads
-use Rattle.dlc.proofs.silent.Reads as silent-reads
 
 enum-told : tie.Need-enum-told
 enum-told c = search needs
 
 silent-requires : tie.Need-silent-requires
-silent-requires c κs = search needs
+silent-requires c κs = tt
 
 enum-told-2 : tie.Need-enum-told-2
 enum-told-2 c = search needs
 
 in-state-requires : tie.Need-in-state-requires
-in-state-requires c κs = search needs
+in-state-requires c κs = tt
 
 silent-requires-2 : tie.Need-silent-requires-2
-silent-requires-2 c κs = search needs
+silent-requires-2 c κs = tt
 
 enum-told-3 : tie.Need-enum-told-3
 enum-told-3 c = search needs
 
 silent-requires-3 : tie.Need-silent-requires-3
-silent-requires-3 c κs = search needs
+silent-requires-3 c κs = tt
 
 enum-told-4 : tie.Need-enum-told-4
 enum-told-4 c = search needs
 
 silent-requires-4 : tie.Need-silent-requires-4
-silent-requires-4 c κs = search needs
+silent-requires-4 c κs = tt
 
 returns : tie.Need-returns
 returns c = refused-returns _ _ 24 _ (ap (λ (s : State). resetAckStep (view (c .before .before .before .args .self)) s) (c .before .enum-told .given .1)) (c .silent .ensures)

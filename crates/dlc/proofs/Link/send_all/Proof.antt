@@ -1,3 +1,4 @@
+-- `Link::send_all`: what `send` writes is what the table says. Assumes nothing.
 use denote.Ref.{now}
 use Rattle.dlc.proofs.Parts.{length-queue}
 use Rattle.dlc.proofs.Outcomes.{all-meets}
@@ -5,12 +6,9 @@ use native.Mathlib.Omega.{arith}
 use borrow.Author.Needs.{needs}
 use Rattle.dlc.proofs.Link.send_all.Statement.{statement}
 use Rattle.dlc.proofs.Link.send_all.Tie as tie
-use Rattle.dlc.proofs.Link.send_all.Reads as reads
-use Rattle.dlc.proofs.Link.send_all.Lts as lts
-use Rattle.dlc_queue.proofs.Queue.send.Reads as send-reads
 
 send-requires : tie.Need-send-requires
-send-requires c κs = search needs
+send-requires c κs = tt
 
 same-length : tie.Need-same-length
 same-length c = search needs

@@ -1,3 +1,4 @@
+-- `Link::start`: the shared refusals, and then the row of the table by the state. Assumes nothing.
 use Prim.Native.Nat.{ℕ}
 use mathlib.Core.Path.{_≡_, ap, _∙_}
 use mathlib.Core.Bool.{true}
@@ -15,11 +16,6 @@ use native.Mathlib.Omega.{arith}
 use borrow.Author.Needs.{needs}
 use Rattle.dlc.proofs.Link.start.Statement.{statement}
 use Rattle.dlc.proofs.Link.start.Tie as tie
-use Rattle.dlc.proofs.Link.start.Reads as reads
-use Rattle.dlc.proofs.Link.start.Lts as lts
-use Rattle.dlc.proofs.Link.in_state.Reads as in-state-reads
-use Rattle.dlc.proofs.Link.refusal.Reads as refusal-reads
-use Rattle.dlc.proofs.silent.Reads as silent-reads
 
 -- past the shared refusals the link is well formed, and the row of its state decides
 ok : (c : tie.Else1) → wellFormed (c .before .before .before .args .self) ≡ true
@@ -30,10 +26,10 @@ row : (c : tie.Else1) {s : State} → c .before .before .before .args .self .sta
 row c {s} e = start-step (view (c .before .before .before .args .self)) (length (now (c .before .before .before .args .reply))) (c .before .refusal .result) (c .before .refusal .ensures) (c .if1 .left) s e
 
 refusal-requires : tie.Need-refusal-requires
-refusal-requires c κs = search needs
+refusal-requires c κs = tt
 
 silent-requires : tie.Need-silent-requires
-silent-requires c κs = search needs
+silent-requires c κs = tt
 
 returns : tie.Need-returns
 returns c = refused-meets _ _ (c .before .before .refusal .result) _ _ (start-refused (view (c .before .before .before .before .args .self)) (length (now (c .before .before .before .before .args .reply))) (c .before .before .refusal .result) (c .before .before .refusal .ensures) (c .before .if1 .taken)) (c .silent .ensures)
@@ -42,28 +38,28 @@ enum-told : tie.Need-enum-told
 enum-told c = search needs
 
 in-state-requires : tie.Need-in-state-requires
-in-state-requires c κs = search needs
+in-state-requires c κs = tt
 
 silent-requires-2 : tie.Need-silent-requires-2
-silent-requires-2 c κs = search needs
+silent-requires-2 c κs = tt
 
 enum-told-2 : tie.Need-enum-told-2
 enum-told-2 c = search needs
 
 silent-requires-3 : tie.Need-silent-requires-3
-silent-requires-3 c κs = search needs
+silent-requires-3 c κs = tt
 
 enum-told-3 : tie.Need-enum-told-3
 enum-told-3 c = search needs
 
 silent-requires-4 : tie.Need-silent-requires-4
-silent-requires-4 c κs = search needs
+silent-requires-4 c κs = tt
 
 enum-told-4 : tie.Need-enum-told-4
 enum-told-4 c = search needs
 
 silent-requires-5 : tie.Need-silent-requires-5
-silent-requires-5 c κs = search needs
+silent-requires-5 c κs = tt
 
 returns-2 : tie.Need-returns-2
 returns-2 c =

@@ -1,3 +1,4 @@
+-- `Link::timer`: the shared refusals, and then the row of the table by the state. Assumes nothing.
 use Prim.Native.Nat.{ℕ, _≤_}
 use mathlib.Core.Path.{_≡_, refl, ap, _∙_}
 use mathlib.Core.Bool.{true}
@@ -14,12 +15,6 @@ use native.Mathlib.Omega.{arith}
 use borrow.Author.Needs.{needs}
 use Rattle.dlc.proofs.Link.timer.Statement.{statement}
 use Rattle.dlc.proofs.Link.timer.Tie as tie
-use Rattle.dlc.proofs.Link.timer.Reads as reads
-use Rattle.dlc.proofs.Link.timer.Lts as lts
-use Rattle.dlc.proofs.Link.refusal.Reads as refusal-reads
-use Rattle.dlc.proofs.Link.send_all.Reads as send-all-reads
-use Rattle.dlc.proofs.send_one.Reads as send-one-reads
-use Rattle.dlc.proofs.silent.Reads as silent-reads
 
 -- past the shared refusals the link is well formed, the buffer has room, and the row of the link's state decides
 ok : (c : tie.Else1) → wellFormed (c .before .before .before .args .self) ≡ true
@@ -33,10 +28,10 @@ row : (c : tie.Else1) {s : State} → c .before .before .before .args .self .sta
 row c {s} e = timer-step (view (c .before .before .before .args .self)) (length (now (c .before .before .before .args .reply))) (c .before .refusal .result) (c .before .refusal .ensures) (c .if1 .left) s e
 
 refusal-requires : tie.Need-refusal-requires
-refusal-requires c κs = search needs
+refusal-requires c κs = tt
 
 silent-requires : tie.Need-silent-requires
-silent-requires c κs = search needs
+silent-requires c κs = tt
 
 returns : tie.Need-returns
 returns c = refused-meets _ _ (c .before .before .refusal .result) _ _ (timer-refused (view (c .before .before .before .before .args .self)) (length (now (c .before .before .before .before .args .reply))) (c .before .before .refusal .result) (c .before .before .refusal .ensures) (c .before .if1 .taken)) (c .silent .ensures)
@@ -45,7 +40,7 @@ enum-told : tie.Need-enum-told
 enum-told c = search needs
 
 silent-requires-2 : tie.Need-silent-requires-2
-silent-requires-2 c κs = search needs
+silent-requires-2 c κs = tt
 
 enum-told-2 : tie.Need-enum-told-2
 enum-told-2 c = search needs
@@ -57,7 +52,7 @@ enum-told-3 : tie.Need-enum-told-3
 enum-told-3 c = search needs
 
 silent-requires-3 : tie.Need-silent-requires-3
-silent-requires-3 c κs = search needs
+silent-requires-3 c κs = tt
 
 enum-told-4 : tie.Need-enum-told-4
 enum-told-4 c = search needs

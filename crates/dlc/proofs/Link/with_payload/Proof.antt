@@ -1,15 +1,13 @@
+-- `Link::with_payload`: what `push` gives makes the link that the table says. Assumes nothing.
 use denote.Ref.{now}
 use Rattle.dlc.proofs.Views.{view-withPayload}
 use native.Mathlib.Omega.{arith}
 use borrow.Author.Needs.{needs}
 use Rattle.dlc.proofs.Link.with_payload.Statement.{statement}
 use Rattle.dlc.proofs.Link.with_payload.Tie as tie
-use Rattle.dlc.proofs.Link.with_payload.Reads as reads
-use Rattle.dlc.proofs.Link.with_payload.Lts as lts
-use Rattle.dlc_queue.proofs.Queue.push.Reads as push-reads
 
 push-requires : tie.Need-push-requires
-push-requires c κs = search needs
+push-requires c κs = tt
 
 returns : tie.Need-returns
 returns c =

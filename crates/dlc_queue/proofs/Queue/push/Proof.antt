@@ -1,3 +1,4 @@
+-- `Queue::push`: the three cases of `Pushed`. Assumes nothing.
 use denote.Ref.{now}
 use Rattle.dlc_queue.proofs.Shape.{slots-long}
 use Rattle.dlc_queue.proofs.Slots.{pushed-full, pushed-over, pushed-room}
@@ -5,9 +6,6 @@ use native.Mathlib.Omega.{arith}
 use borrow.Author.Needs.{needs}
 use Rattle.dlc_queue.proofs.Queue.push.Statement.{statement}
 use Rattle.dlc_queue.proofs.Queue.push.Tie as tie
-use Rattle.dlc_queue.proofs.Queue.push.Reads as reads
-use Rattle.dlc_queue.proofs.Queue.push.Lts as lts
-use Rattle.dlc_queue.proofs.payload_of.Reads as payload-of-reads
 
 returns : tie.Need-returns
 returns c = pushed-full (c .before .before .args .t1) (now (c .before .before .args .p)) (c .if1 .taken)

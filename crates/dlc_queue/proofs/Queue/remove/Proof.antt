@@ -1,11 +1,9 @@
+-- `Queue::remove`: the three cases of `Removed`. Assumes nothing.
 use Rattle.dlc_queue.proofs.Slots.{removed-over, removed-fewer, removed-oldest}
 use native.Mathlib.Omega.{arith}
 use borrow.Author.Needs.{needs}
 use Rattle.dlc_queue.proofs.Queue.remove.Statement.{statement}
 use Rattle.dlc_queue.proofs.Queue.remove.Tie as tie
-use Rattle.dlc_queue.proofs.Queue.remove.Reads as reads
-use Rattle.dlc_queue.proofs.Queue.remove.Lts as lts
-use Rattle.dlc_queue.proofs.moved_down.Reads as moved-down-reads
 
 returns : tie.Need-returns
 returns c = removed-over (c .before .args .self) (c .before .args .n) (c .if1 .taken)

@@ -1,3 +1,4 @@
+-- `Queue::send`: nothing is written but where the queue, the number and the buffer are right. Assumes nothing.
 use mathlib.Core.Path.{_≡_, sym, _∙_}
 use denote.Ref.{now}
 use Rattle.dlc_queue.proofs.Slots.{formed-count, formed-short}
@@ -6,13 +7,9 @@ use native.Mathlib.Omega.{arith}
 use borrow.Author.Needs.{needs}
 use Rattle.dlc_queue.proofs.Queue.send.Statement.{statement}
 use Rattle.dlc_queue.proofs.Queue.send.Tie as tie
-use Rattle.dlc_queue.proofs.Queue.send.Reads as reads
-use Rattle.dlc_queue.proofs.Queue.send.Lts as lts
-use Rattle.dlc_queue.proofs.Queue.well_formed.Reads as well-formed-reads
-use Rattle.dlc_queue.proofs.send_slots.Reads as send-slots-reads
 
 well-formed-requires : tie.Need-well-formed-requires
-well-formed-requires c κs = search needs
+well-formed-requires c κs = tt
 
 returns : tie.Need-returns
 returns c = unsent-number (c .before .before .before .before .args .self) (c .before .before .before .before .args .base) (now (c .before .before .before .before .args .reply)) (sym (c .before .before .well-formed .ensures) ∙ c .before .if1 .taken) (c .if2 .taken)

@@ -1,12 +1,10 @@
+-- `Queue::well_formed`: the count, and then the lengths. Assumes nothing.
 use mathlib.Core.Path.{sym, _∙_}
 use Rattle.dlc_queue.proofs.Slots.{over-formed, within-formed}
 use native.Mathlib.Omega.{arith}
 use borrow.Author.Needs.{needs}
 use Rattle.dlc_queue.proofs.Queue.well_formed.Statement.{statement}
 use Rattle.dlc_queue.proofs.Queue.well_formed.Tie as tie
-use Rattle.dlc_queue.proofs.Queue.well_formed.Reads as reads
-use Rattle.dlc_queue.proofs.Queue.well_formed.Lts as lts
-use Rattle.dlc_queue.proofs.all_short.Reads as all-short-reads
 
 returns : tie.Need-returns
 returns c = sym (over-formed (c .before .args .self) (c .if1 .taken))
