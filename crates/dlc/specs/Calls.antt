@@ -8,7 +8,7 @@
 use Prim.Native.Nat.{ℕ}
 use mathlib.Core.Path.{_≡_}
 use mathlib.Core.Bool.{Bool, true, false, cond}
-use mathlib.Core.List.{List, [], flatten}
+use mathlib.Core.List.{List, [], _∷_, flatten}
 use lib.ListN.{length, drop}
 use Rattle.common.specs.Buffer.{withFront}
 use Rattle.dlc_queue.specs.Send.{lengthsOf}
@@ -28,6 +28,15 @@ answerOf d = record {
   sent = length (d .packets);
   lengths = lengthsOf (d .packets);
 }
+
+-- a link given back with the answer of an effect
+abbrev pub given : Link → Effect → Outcome
+given l d = record { link = l; answer = answerOf d }
+
+-- a link given back with one packet of one octet, which is all that was written
+pub record OneSent (l : Link) (c : ℕ) (upperReset delivered : Bool) (octet : ℕ) (before later : List ℕ) (r : Outcome) : Type 0 where
+  pub outcome : r ≡ given l (record { code = c; upperReset = upperReset; delivered = delivered; packets = (octet ∷ []) ∷ []; after = view l })
+  pub reply : later ≡ withFront (octet ∷ []) before
 
 -- what is given back where the effect is d: its answer, the link after it, and on a refusal the very link that came
 pub record Returns (d : Effect) (l : Link) (r : Outcome) : Type 0 where

@@ -1,13 +1,11 @@
+-- `dack_distance`: a difference that wraps modulo 256, taken modulo 16. Assumes nothing.
 use Rattle.dlc_packet.proofs.Numbers.{distance-wraps}
 use borrow.Author.Needs.{needs}
 use Rattle.dlc_packet.proofs.dack_distance.Statement.{statement}
 use Rattle.dlc_packet.proofs.dack_distance.Tie as tie
-use Rattle.dlc_packet.proofs.dack_distance.Reads as reads
-use Rattle.dlc_packet.proofs.dack_distance.Lts as lts
-use Rattle.std.proofs.num.wrapping_sub_u8.Reads as wrapping-sub-u8-reads
 
 wrapping-sub-u8-requires : tie.Need-wrapping-sub-u8-requires
-wrapping-sub-u8-requires c κs = search needs
+wrapping-sub-u8-requires c κs = tt
 
 returns : tie.Need-returns
 returns c = distance-wraps (c .wrapping-sub-u8 .result) (c .before .args .base) (c .before .args .x) (c .wrapping-sub-u8 .ensures)
