@@ -105,11 +105,15 @@ length-octets a f =
     (long-free (slots - length (a .sender .queue)))
 
 -- ---- what a call may give back: the very link on a refusal, else a link for the model after it
-data Possible (m : Model) (d : Effect) : Type 0 where
+pub data Possible (m : Model) (d : Effect) : Type 0 where
   stays : (c : ℕ) → d ≡ refuse m c → Possible m d
-  moves : (a : Peer) → Fits a → d .after ≡ modelOf a → refuses (d .code) ≡ false → Possible m d
+  moves : (l : Link) → view l ≡ d .after → refuses (d .code) ≡ false → Possible m d
 
-reply : (d : Effect) (l : Link) (before : Octets) → Possible (view l) d → Reply (Meets d l before)
+-- by an end of the packet system
+becomes : {m : Model} {d : Effect} (a : Peer) → Fits a → d .after ≡ modelOf a → refuses (d .code) ≡ false → Possible m d
+becomes a f e z = moves (linkOf a) (view-linkOf a f ∙ sym e) z
+
+pub reply : (d : Effect) (l : Link) (before : Octets) → Possible (view l) d → Reply (Meets d l before)
 unfolding flatten
 reply d l before (stays c e) = record {
   outcome = record { link = l; answer = answerOf d };
@@ -119,11 +123,11 @@ reply d l before (stays c e) = record {
     reply = sym (ap (λ (t : Effect). withFront (flatten (t .packets)) before) e);
   };
 }
-reply d l before (moves a f e z) = record {
-  outcome = record { link = linkOf a; answer = answerOf d };
+reply d l before (moves l′ e z) = record {
+  outcome = record { link = l′; answer = answerOf d };
   later = withFront (flatten (d .packets)) before;
   meets = record {
-    returns = record { answer = refl; link = view-linkOf a f ∙ sym e; kept = λ t. absurd (false≢true (sym z ∙ t)) };
+    returns = record { answer = refl; link = e; kept = λ t. absurd (false≢true (sym z ∙ t)) };
     reply = refl;
   };
 }
@@ -138,22 +142,22 @@ module _ (a : Peer) (f : Fits a) where
   payload-possible p true long full hl hf = stays shortReply refl
   payload-possible p false true full hl hf = stays tooLong refl
   payload-possible p false false true hl hf = stays queueFull refl
-  payload-possible p false false false hl hf = moves (accept rules p a) (fits-accept a f p (hf refl) (hl refl)) (withPayload-accept a p) refl
+  payload-possible p false false false hl hf = becomes (accept rules p a) (fits-accept a f p (hf refl) (hl refl)) (withPayload-accept a p) refl
 
   timer-possible : (short waiting : Bool) → Possible (modelOf a) (timerEffect short waiting (modelOf a))
   timer-possible true waiting = stays shortReply refl
   timer-possible false false = stays noEntry refl
-  timer-possible false true = moves a f refl refl
+  timer-possible false true = becomes a f refl refl
 
   data-possible : (p : Octets) (short hit : Bool) → Possible (modelOf a) (dataEffect short hit (modelOf a))
   data-possible p true hit = stays shortReply refl
-  data-possible p false false = moves a f refl refl
-  data-possible p false true = moves (takeData rules true p a) (fits-takeData a f true p) refl refl
+  data-possible p false false = becomes a f refl refl
+  data-possible p false true = becomes (takeData rules true p a) (fits-takeData a f true p) refl refl
 
   dack-possible : (d : ℕ) (short frees : Bool) → Possible (modelOf a) (dackEffect short frees (modelOf a) d)
   dack-possible d true frees = stays shortReply refl
   dack-possible d false false = stays noEntry refl
-  dack-possible d false true = moves (withSender (freed d (a .sender)) a) (fits-freed a f d) refl refl
+  dack-possible d false true = becomes (withSender (freed d (a .sender)) a) (fits-freed a f d) refl refl
 
 module _ {w : World} {s : Both Peer} (f : BothFollow w s) (before : Octets) where
   -- a call whose effect at the model of the left end is possible

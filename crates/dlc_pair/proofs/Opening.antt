@@ -9,25 +9,28 @@ use mathlib.Core.List.{List, [], _∷_, _++_}
 use lib.ListN.{length}
 use lib.Dec.{ltb, eqb}
 use borrow.Author.Tests.{le-ltb}
-use Rattle.dlc.specs.declared.State.the-variants.{Reset}
+use Rattle.dlc.specs.declared.State.{State}
+use Rattle.dlc.specs.declared.State.the-variants.{Idle, Reset, Data}
 use Rattle.dlc.specs.declared.Link.{Link}
 use Rattle.dlc.specs.declared.Answer.{Answer}
 use Rattle.dlc.specs.declared.Outcome.{Outcome}
 use Rattle.dlc.specs.Limits.{replySize, resetPacket, resetAckPacket}
-use Rattle.dlc.specs.Answers.{done, shortReply, illFormed}
-use Rattle.dlc.specs.Model.{Model, view, fresh, opened}
+use Rattle.dlc.specs.Answers.{done, shortReply, illFormed, refuses}
+use Rattle.dlc.specs.Model.{Model, view, wellFormed, fresh, opened}
 use Rattle.dlc.specs.Events.{Effect, effect, cleared, startOf, timerOf, arrivalOf}
-use Rattle.dlc.specs.Calls.{Meets, deliveredPart}
-use Rattle.window.specs.Sides.{Both, mirror}
+use Rattle.dlc.specs.Calls.{Meets, StartCall, TimerCall, deliveredPart}
+use Rattle.dlc_queue.specs.Queue.{formed}
+use Rattle.window.specs.Sides.{left, right}
 use Rattle.window.specs.Events.{fresh as freshPeer, start as packetStart}
 use Rattle.dlc_pair.specs.World.{Octets, Packets, isData, isDack, one, count, End, World, freshEnd, initial}
-use Rattle.dlc_pair.specs.History.{arrival, Event, GivenFront, Given, History, final, copiedBy, called, relined, arrived, after}
+use Rattle.dlc_pair.specs.History.{arrival, Event, Reply, GivenFront, Given, GivenAt, afterAt, History, final, copiedBy, called, relined, arrived, after}
 use Rattle.dlc_pair.specs.Demand3.{Demand3}
 use Rattle.dlc_pair.specs.Opening.{openingEvents, Stands}
 use Rattle.dlc_pair.specs.Progress.{Enough}
 use Rattle.dlc_pair.proofs.Codec.{count-++}
 use Rattle.dlc_pair.proofs.Relation.{copiedBy-packets, never-snoc, Follows, BothFollow}
 use Rattle.dlc_pair.proofs.Demand3.{demand-three-from}
+use Rattle.dlc_pair.proofs.Existence.{queueOf, moves, reply}
 
 -- ---- the effects of the four calls, where the reply buffer is large enough
 abbrev resetting : Model
@@ -110,38 +113,100 @@ module _ {w : World} {m m′ : Model} {ks : Packets} (q : Octets) (s : Stands (w
       at-line l h = subst (λ (l : Packets). (g : GivenFront l (w .left) before) → Stands (arrived l before w g .left) (d .after) (ks ++ d .packets) × Stands (arrived l before w g .right) m′ [])
           (sym h) stands-front
 
--- ---- the theorems
-module _ (l l′ : Link) (e : view l ≡ fresh) (e′ : view l′ .ok ≡ true) (b₁ b₂ b₃ b₄ : Octets) (h₁ : Enough b₁) (h₂ : Enough b₂) (h₃ : Enough b₃) (h₄ : Enough b₄)
-    (h : History (openingEvents b₁ b₂ b₃ b₄) (initial l l′)) where
+-- ---- a link in each state on the way: queue empty, numbers 0
+abbrev emptyLink : State → Link
+emptyLink s = record { state = s; queue = queueOf []; base = 0; expected = 0 }
+
+view-idle : view (emptyLink Idle) ≡ fresh
+unfolding wellFormed formed
+view-idle = refl
+
+view-reset : view (emptyLink Reset) ≡ resetting
+unfolding wellFormed formed
+view-reset = refl
+
+view-data : view (emptyLink Data) ≡ opened
+unfolding wellFormed formed
+view-data = refl
+
+-- a call whose effect is known may give back a link of the model after it
+reply-known : (d : Effect) {d′ : Effect} → d ≡ d′ → (l l″ : Link) (before : Octets) → view l″ ≡ d′ .after → refuses (d′ .code) ≡ false → Reply (Meets d l before)
+reply-known d e l l″ before h z = reply d l before (moves l″ (h ∙ ap (λ (t : Effect). t .after) (sym e)) (ap (λ (t : Effect). refuses (t .code)) e ∙ z))
+
+-- ---- the four calls, one after another
+module _ (l l′ : Link) (e : view l ≡ fresh) (e′ : view l′ .ok ≡ true) (b₁ b₂ b₃ b₄ : Octets) (h₁ : Enough b₁) (h₂ : Enough b₂) (h₃ : Enough b₃) (h₄ : Enough b₄) where
+  -- the left end after start
+  start-effect : startOf (view l) (length b₁) ≡ effect done [] resetting
+  start-effect = ap (λ (m : Model). startOf m (length b₁)) e ∙ startOf-fresh (length b₁) h₁
+
+  module _ (g₁ : Reply (StartCall l b₁)) where
+    after-start : Stands (called (g₁ .outcome) (g₁ .later) [] [] 0 (freshEnd l)) resetting []
+    after-start = stands-called (rw start-effect at (g₁ .meets)) (stands-fresh l e) refl (λ x. omega (arith, x)) refl refl
+
+    -- and after its timer has sent RESET
+    timer-effect : timerOf (view (g₁ .outcome .link)) (length b₂) ≡ effect done (resetPacket ∷ []) resetting
+    timer-effect = ap (λ (m : Model). timerOf m (length b₂)) (after-start .model) ∙ timerOf-resetting (length b₂) h₂
+
+    module _ (g₂ : Reply (TimerCall (g₁ .outcome .link) b₂)) where
+      abbrev sentReset : World
+      sentReset = record { left = called (g₂ .outcome) (g₂ .later) [] [] 0 (called (g₁ .outcome) (g₁ .later) [] [] 0 (freshEnd l)); right = freshEnd l′ }
+
+      after-timer : Stands (sentReset .left) resetting (resetPacket ∷ [])
+      after-timer = stands-called (rw timer-effect at (g₂ .meets)) after-start refl (λ x. omega (arith, x)) refl refl
+
+      module _ (g₃ : GivenAt right (arrival b₃) sentReset) where
+        abbrev answered : World
+        answered = afterAt right (arrival b₃) sentReset g₃
+
+        -- RESET has arrived at the right end, which is open now and has sent RESET_ACK
+        after-reset : Stands (answered .right) (cleared (view l′) .after) (resetAckPacket ∷ []) × Stands (answered .left) resetting []
+        after-reset = stands-arrived resetPacket (stands-fresh l′ refl) after-timer b₃ (arrivalOf-reset (length b₃) h₃ (view l′) e′) refl (λ x. omega (arith, x)) refl refl g₃
+
+        -- RESET_ACK has arrived at the left end
+        after-ack : (g₄ : GivenAt left (arrival b₄) answered) → Stands (afterAt left (arrival b₄) answered g₄ .left) opened [] × Stands (afterAt left (arrival b₄) answered g₄ .right) opened []
+        after-ack g₄ =
+            let s = stands-arrived resetAckPacket (after-reset .1) (after-reset .0) b₄ (arrivalOf-resetAck (length b₄) h₄) refl (λ x. omega (arith, x)) refl refl g₄ in
+            (s .0, subst (λ (m : Model). Stands (afterAt left (arrival b₄) answered g₄ .right) m []) (cleared-opened (view l′) e′) (s .1))
+
+  -- ---- the theorems
   -- both ends stand open, and both lines are empty
-  pub opening : Stands (final (openingEvents b₁ b₂ b₃ b₄) (initial l l′) h .left) opened [] × Stands (final (openingEvents b₁ b₂ b₃ b₄) (initial l l′) h .right) opened []
-  opening =
-      let g₁ = h .0 in
-      let g₂ = h .1 .0 in
-      let c₁ : Meets (effect done [] resetting) l b₁ (g₁ .later) (g₁ .outcome) =
-      subst (λ (t : Effect). Meets t l b₁ (g₁ .later) (g₁ .outcome)) (ap (λ (m : Model). startOf m (length b₁)) e ∙ startOf-fresh (length b₁) h₁) (g₁ .meets) in
-      let s₁ = stands-called c₁ (stands-fresh l e) refl (λ x. omega (arith, x)) refl refl in
-      let c₂ : Meets (effect done (resetPacket ∷ []) resetting) (g₁ .outcome .link) b₂ (g₂ .later) (g₂ .outcome) =
-      subst (λ (t : Effect). Meets t (g₁ .outcome .link) b₂ (g₂ .later) (g₂ .outcome))
-      (ap (λ (m : Model). timerOf m (length b₂)) (s₁ .model) ∙ timerOf-resetting (length b₂) h₂) (g₂ .meets) in
-      let s₂ = stands-called c₂ s₁ refl (λ x. omega (arith, x)) refl refl in
-      let t₃ = stands-arrived resetPacket (stands-fresh l′ refl) s₂ b₃ (arrivalOf-reset (length b₃) h₃ (view l′) e′) refl (λ x. omega (arith, x)) refl refl (h .1 .1 .0) in
-      let t₄ = stands-arrived resetAckPacket (t₃ .1) (t₃ .0) b₄ (arrivalOf-resetAck (length b₄) h₄) refl (λ x. omega (arith, x)) refl refl (h .1 .1 .1 .0) in
-      (t₄ .0, subst (λ (m : Model). Stands (final (openingEvents b₁ b₂ b₃ b₄) (initial l l′) h .right) m []) (cleared-opened (view l′) e′) (t₄ .1))
+  pub opening : (h : History (openingEvents b₁ b₂ b₃ b₄) (initial l l′))
+      → Stands (final (openingEvents b₁ b₂ b₃ b₄) (initial l l′) h .left) opened [] × Stands (final (openingEvents b₁ b₂ b₃ b₄) (initial l l′) h .right) opened []
+  opening h = after-ack (h .0) (h .1 .0) (h .1 .1 .0) (h .1 .1 .1 .0)
 
-  follows-opened : {e : End} → Stands e opened [] → Follows e freshPeer
-  follows-opened s = record {
-    model = s .model;
-    line = s .line;
-    accepted = s .accepted;
-    delivered = s .delivered;
-    sent = s .sent;
-    lost = s .lost;
-    never = s .never;
-    fits = record { base = omega arith; expected = omega arith; short = tt; few = omega arith };
-    sound = tt;
-  }
+  -- it can be done
+  pub opening-exists : History (openingEvents b₁ b₂ b₃ b₄) (initial l l′)
+  opening-exists =
+      let g₁ : Reply (StartCall l b₁) = reply-known _ start-effect l (emptyLink Reset) b₁ view-reset refl in
+      let g₂ : Reply (TimerCall (g₁ .outcome .link) b₂) = reply-known _ (timer-effect g₁) (g₁ .outcome .link) (emptyLink Reset) b₂ view-reset refl in
+      let w₂ = sentReset g₁ g₂ in
+      let g₃ : GivenAt right (arrival b₃) w₂ =
+      subst (λ (k : Packets). GivenFront k (freshEnd l′) b₃) (sym (after-timer g₁ g₂ .line))
+      (reply-known _ (arrivalOf-reset (length b₃) h₃ (view l′) e′) l′ (emptyLink Data) b₃ (view-data ∙ sym (cleared-opened (view l′) e′)) refl) in
+      let w₃ = answered g₁ g₂ g₃ in
+      let s₃ = after-reset g₁ g₂ g₃ in
+      let g₄ : GivenAt left (arrival b₄) w₃ =
+      subst (λ (k : Packets). GivenFront k (w₃ .left) b₄) (sym (s₃ .0 .line))
+      (reply-known _ (ap (λ (m : Model). arrivalOf m resetAckPacket (length b₄)) (s₃ .1 .model) ∙ arrivalOf-resetAck (length b₄) h₄) (w₃ .left .link) (emptyLink Data) b₄ view-data refl) in
+      (g₁, (g₂, (g₃, (g₄, tt))))
 
-  -- and demand 3 holds from there on
-  pub demand-three-opened : (es : List Event) (more : History es (final (openingEvents b₁ b₂ b₃ b₄) (initial l l′) h)) → Demand3 es (final (openingEvents b₁ b₂ b₃ b₄) (initial l l′) h) more
-  demand-three-opened es more = demand-three-from (record { left = follows-opened (opening .0); right = follows-opened (opening .1) }) es more
+-- from a world that opening has led to, demand 3 holds
+follows-opened : {e : End} → Stands e opened [] → Follows e freshPeer
+follows-opened s = record {
+  model = s .model;
+  line = s .line;
+  accepted = s .accepted;
+  delivered = s .delivered;
+  sent = s .sent;
+  lost = s .lost;
+  never = s .never;
+  fits = record { base = omega arith; expected = omega arith; short = tt; few = omega arith };
+  sound = tt;
+}
+
+pub demand-three-opened : {w : World} → Stands (w .left) opened [] → Stands (w .right) opened [] → (es : List Event) (h : History es w) → Demand3 es w h
+demand-three-opened s s′ es h = demand-three-from (record { left = follows-opened s; right = follows-opened s′ }) es h
+
+-- and fresh links are to be had
+pub fresh-link : (l : Link) × (view l ≡ fresh)
+fresh-link = (emptyLink Idle, view-idle)

@@ -59,6 +59,7 @@ settled-follows d f g p = record {
   queue = ap (λ (m : Model). m .queue) (end-follows d g .model) ∙ p .queue;
   accepted = end-follows d g .accepted ∙ p .accepted ∙ sym (end-follows d f .accepted);
   delivered = end-follows (opposite d) g .delivered ∙ p .delivered ∙ sym (end-follows d f .accepted);
+  lines = (g .left .line ∙ ap (map encode) (p .lines .0), g .right .line ∙ ap (map encode) (p .lines .1));
 }
 
 -- once both lines are empty: one timer call, at least as many arrivals at the other end as payloads are queued, and at least as many at this

@@ -25,8 +25,9 @@ arrivals d bs = map (λ (b : Octets). record { side = d; act = arrival b }) bs
 abbrev pub exchange : Side → Octets → List Octets → List Octets → List Event
 exchange d b bs cs = record { side = d; act = timer b } ∷ (arrivals (opposite d) bs ++ arrivals d cs)
 
--- from w to z: nothing is left in the queue of this end, and all that it had accepted is delivered at the other
+-- from w to z: nothing is left in the queue of this end, all that it had accepted is delivered at the other, and both lines are empty again
 pub record Settled (d : Side) (w z : World) : Type 0 where
   pub queue : view (endAt d z .link) .queue ≡ []
   pub accepted : endAt d z .accepted ≡ endAt d w .accepted
   pub delivered : endAt (opposite d) z .delivered ≡ endAt d w .accepted
+  pub lines : (z .left .line ≡ []) × (z .right .line ≡ [])

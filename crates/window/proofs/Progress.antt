@@ -115,6 +115,19 @@ module _ (r : Rules) where
         rightAccepted = b .rightAccepted ∙ a .rightAccepted;
       }
 
+  -- where no DATA arrives, nothing is sent
+  only-dacks : (ks : List Packet) (s : Both End) → s .right .line ≡ ks → countData ks ≡ 0
+      → (arrive r true ks s .left .line ≡ s .left .line) × (countData (arrive r true ks s .right .line) ≡ 0)
+  only-dacks [] s e h = (refl, ap countData e)
+  only-dacks (dataPdu x p ∷ ks) s e h = absurd (omega (arith, h))
+  only-dacks (dackPdu x ∷ ks) s e h = (refl, h)
+
+  receives-dacks : (n : ℕ) (s : Both End) → countData (s .right .line) ≡ 0 → receives n s .left .line ≡ s .left .line
+  receives-dacks zero s h = refl
+  receives-dacks (suc n) s h =
+      let one = only-dacks (s .right .line) s refl h in
+      receives-dacks n (arrive r true (s .right .line) s) (one .1) ∙ one .0
+
   module _ (law : Lawful r) where
     invariant-receives : (n : ℕ) {a b : Assumed} (s : Both End) → Invariant r a b s → Invariant r a b (receives n s)
     invariant-receives zero s v = v
@@ -172,6 +185,7 @@ module _ (r : Rules) where
       queue = done .0;
       accepted = accepted;
       delivered = done .1 ∙ accepted;
+      lines = (receives-dacks m u (second .noData ∙ ap countData (first .incoming)) ∙ leftLine, rightLine);
     })
       where
         t : Both End
@@ -222,4 +236,4 @@ module _ (r : Rules) where
         let s = run r es start in
         let p = progress-left (mirror s) (invariant-mirror r (invariant-run r law es start (invariant-start r law))) er el k m hk hm in
         let e : run r (exchange right k m) s ≡ mirror (run r (exchange left k m) (mirror s)) = exchange-mirror k m s in
-        rw e (record { queue = p .queue; accepted = p .accepted; delivered = p .delivered })
+        rw e (record { queue = p .queue; accepted = p .accepted; delivered = p .delivered; lines = (p .lines .1, p .lines .0) })

@@ -25,8 +25,9 @@ exchange d k m =
     record { side = d; act = timeout true }
     ∷ (replicate k (record { side = opposite d; act = receive true }) ++ replicate m (record { side = d; act = receive true }))
 
--- from s to z: nothing is left in the queue of this end, and all that it had accepted is delivered
+-- from s to z: nothing is left in the queue of this end, all that it had accepted is delivered, and both lines are empty again
 pub record Settled (d : Side) (s z : Both End) : Type 0 where
   pub queue : endAt d z .sender .queue ≡ []
   pub accepted : endAt d z .sender .accepted ≡ endAt d s .sender .accepted
   pub delivered : endAt (opposite d) z .receiver .delivered ≡ endAt d s .sender .accepted
+  pub lines : (z .left .line ≡ []) × (z .right .line ≡ [])
