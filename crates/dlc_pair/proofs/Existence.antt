@@ -161,7 +161,8 @@ module _ (a : Peer) (f : Fits a) where
 
 module _ {w : World} {s : Both Peer} (f : BothFollow w s) (before : Octets) where
   -- a call whose effect at the model of the left end is possible
-  reply-at : (e : Model → Effect) {d : Effect} → e (modelOf (s .left)) ≡ d → Possible (modelOf (s .left)) d → Reply (Meets (e (view (w .left .link))) (w .left .link) before)
+  reply-at : (e : Model → Effect) {d : Effect} → e (modelOf (s .left)) ≡ d → Possible (modelOf (s .left)) d
+      → Reply (Meets (e (view (w .left .link))) (w .left .link) before)
   reply-at e {d} p x = reply _ (w .left .link) before
       (subst (λ (m : Model). Possible m (e m)) (sym (f .left .model)) (subst (Possible (modelOf (s .left))) (sym p) x))
 
@@ -207,5 +208,6 @@ pub history-exists : (l l′ : Link) → view l ≡ opened → view l′ ≡ ope
 history-exists l l′ e e′ es = history-of es (follow-initial l l′ e e′)
 
 -- and whatever the calls gave back so far, events can go on
-pub history-goes-on : (l l′ : Link) → view l ≡ opened → view l′ ≡ opened → (es more : List Event) (h : History es (initial l l′)) → History more (final es (initial l l′) h)
+pub history-goes-on : (l l′ : Link) → view l ≡ opened → view l′ ≡ opened → (es more : List Event) (h : History es (initial l l′))
+    → History more (final es (initial l l′) h)
 history-goes-on l l′ e e′ es more h = history-of more (run-follows es (follow-initial l l′ e e′) h)

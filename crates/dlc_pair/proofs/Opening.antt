@@ -105,7 +105,8 @@ module _ {w : World} {m m′ : Model} {ks : Packets} (q : Octets) (s : Stands (w
         stands-relined s′ [] _ (λ i. one (noData i && eqb (g .outcome .answer .code) shortReply)),
       )
 
-  stands-arrived : (g : Given (arrival before) w) → Stands (after (arrival before) w g .left) (d .after) (ks ++ d .packets) × Stands (after (arrival before) w g .right) m′ []
+  stands-arrived : (g : Given (arrival before) w)
+      → Stands (after (arrival before) w g .left) (d .after) (ks ++ d .packets) × Stands (after (arrival before) w g .right) m′ []
   stands-arrived g = at-line (w .right .line) (s′ .line) g
     where
       at-line : (l : Packets) → l ≡ q ∷ [] → (g : GivenFront l (w .left) before)
@@ -130,7 +131,8 @@ unfolding wellFormed formed
 view-data = refl
 
 -- a call whose effect is known may give back a link of the model after it
-reply-known : (d : Effect) {d′ : Effect} → d ≡ d′ → (l l″ : Link) (before : Octets) → view l″ ≡ d′ .after → refuses (d′ .code) ≡ false → Reply (Meets d l before)
+reply-known : (d : Effect) {d′ : Effect} → d ≡ d′ → (l l″ : Link) (before : Octets) → view l″ ≡ d′ .after → refuses (d′ .code) ≡ false
+    → Reply (Meets d l before)
 reply-known d e l l″ before h z = reply d l before (moves l″ (h ∙ ap (λ (t : Effect). t .after) (sym e)) (ap (λ (t : Effect). refuses (t .code)) e ∙ z))
 
 -- ---- the four calls, one after another
@@ -163,7 +165,8 @@ module _ (l l′ : Link) (e : view l ≡ fresh) (e′ : view l′ .ok ≡ true) 
         after-reset = stands-arrived resetPacket (stands-fresh l′ refl) after-timer b₃ (arrivalOf-reset (length b₃) h₃ (view l′) e′) refl (λ x. omega (arith, x)) refl refl g₃
 
         -- RESET_ACK has arrived at the left end
-        after-ack : (g₄ : GivenAt left (arrival b₄) answered) → Stands (afterAt left (arrival b₄) answered g₄ .left) opened [] × Stands (afterAt left (arrival b₄) answered g₄ .right) opened []
+        after-ack : (g₄ : GivenAt left (arrival b₄) answered)
+            → Stands (afterAt left (arrival b₄) answered g₄ .left) opened [] × Stands (afterAt left (arrival b₄) answered g₄ .right) opened []
         after-ack g₄ =
             let s = stands-arrived resetAckPacket (after-reset .1) (after-reset .0) b₄ (arrivalOf-resetAck (length b₄) h₄) refl (λ x. omega (arith, x)) refl refl g₄ in
             (s .0, subst (λ (m : Model). Stands (afterAt left (arrival b₄) answered g₄ .right) m []) (cleared-opened (view l′) e′) (s .1))

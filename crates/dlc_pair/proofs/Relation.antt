@@ -123,7 +123,8 @@ becomes-same {d} {a} c e h fits x y z = record {
 abbrev pub losing : ℕ → Sender → Sender
 losing m x = record { queue = x .queue; base = x .base; accepted = x .accepted; sent = x .sent; lost = m }
 
-pub follows-relined : {e : End} {a : Peer} → Follows e a → (l : Packets) (ks : List Packet) (n m : ℕ) → l ≡ map encode ks → All Sound ks → m ≡ a .sender .lost + n
+pub follows-relined : {e : End} {a : Peer} → Follows e a → (l : Packets) (ks : List Packet) (n m : ℕ) → l ≡ map encode ks → All Sound ks
+    → m ≡ a .sender .lost + n
     → Follows (relined l n e) (record { sender = losing m (a .sender); receiver = a .receiver; line = ks })
 follows-relined f l ks n m el sound em = record {
   model = f .model;

@@ -23,7 +23,8 @@ eventOf e = record { side = e .side; act = actOf (e .act) }
 abbrev pub runOf : List Event → Both Peer → Both Peer
 runOf es s = run rules (map eventOf es) s
 
-pub stepAt-follows : (d : Side) (a : Act) {w : World} {s : Both Peer} → BothFollow w s → (g : GivenAt d a w) → BothFollow (afterAt d a w g) (stepAt rules d (actOf a) s)
+pub stepAt-follows : (d : Side) (a : Act) {w : World} {s : Both Peer} → BothFollow w s → (g : GivenAt d a w)
+    → BothFollow (afterAt d a w g) (stepAt rules d (actOf a) s)
 stepAt-follows left a f g = step-follows a f g
 stepAt-follows right a f g = follow-mirror (step-follows a (follow-mirror f) g)
 
@@ -72,7 +73,8 @@ timerWaits-follow d (e ∷ es) {w} f h t =
     let before : WaitsAt d (e .side) (e .act) w = t .0 in
     (waitsAt-follow d (e .side) (e .act) f before, timerWaits-follow d es (stepAt-follows (e .side) (e .act) f (h .0)) (h .1) (t .1))
 
-pub timerWaits-back : (d : Side) (es : List Event) {w : World} {s : Both Peer} → BothFollow w s → (h : History es w) → PacketTimerWaits rules d (map eventOf es) s
+pub timerWaits-back : (d : Side) (es : List Event) {w : World} {s : Both Peer} → BothFollow w s → (h : History es w)
+    → PacketTimerWaits rules d (map eventOf es) s
     → TimerWaits d es w h
 timerWaits-back d [] f h t = tt
 timerWaits-back d (e ∷ es) f h t =

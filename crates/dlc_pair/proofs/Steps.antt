@@ -55,7 +55,8 @@ module _ {w : World} {s : Both Peer} (f : BothFollow w s) {before later : Octets
       → BothFollow (record { left = called r later accepted [] 0 (w .left); right = w .right }) s
   refused c m h e = record { left = follows-called m (f .left) (becomes-same c refl h (f .left .fits) e refl refl); right = f .right }
 
-  start-follows : (short : Bool) → Met w before later r (startEffect short (modelOf (s .left))) → BothFollow (record { left = called r later [] [] 0 (w .left); right = w .right }) s
+  start-follows : (short : Bool) → Met w before later r (startEffect short (modelOf (s .left)))
+      → BothFollow (record { left = called r later [] [] 0 (w .left); right = w .right }) s
   start-follows true m = refused shortReply m (λ e. omega (arith, e)) refl
   start-follows false m = refused noEntry m (λ e. omega (arith, e)) refl
 
@@ -128,7 +129,8 @@ module _ {w : World} {s : Both Peer} (f : BothFollow w s) {before later : Octets
         right = follows-relined (f .right) (map encode ks) ks _ n refl hs (e ∙ ap (λ (t : ℕ). s .right .sender .lost + t) (sym data-gone));
       }
 
-  data-follows : (x : ℕ) (p : Octets) (ks : List Packet) → Sound (dataPdu x p) → All Sound ks → (short hit : Bool) → Met w before later r (dataEffect short hit (modelOf (s .left)))
+  data-follows : (x : ℕ) (p : Octets) (ks : List Packet) → Sound (dataPdu x p) → All Sound ks → (short hit : Bool)
+      → Met w before later r (dataEffect short hit (modelOf (s .left)))
       → BothFollow
       (record {
         left = called r later [] (deliveredBy (encode (dataPdu x p)) (r .answer)) (lostBy (isDack (encode (dataPdu x p))) (r .answer)) (w .left);
@@ -168,7 +170,8 @@ module _ {w : World} {s : Both Peer} (f : BothFollow w s) {before later : Octets
         sound = (f .left .fits .expected, tt);
       }) (omega arith)
 
-  dack-follows : (x : ℕ) (ks : List Packet) → x < modulus → All Sound ks → (d : ℕ) (short frees : Bool) → Met w before later r (dackEffect short frees (modelOf (s .left)) d)
+  dack-follows : (x : ℕ) (ks : List Packet) → x < modulus → All Sound ks → (d : ℕ) (short frees : Bool)
+      → Met w before later r (dackEffect short frees (modelOf (s .left)) d)
       → BothFollow
       (record {
         left = called r later [] (deliveredBy (encode (dackPdu x)) (r .answer)) (lostBy (isDack (encode (dackPdu x))) (r .answer)) (w .left);
@@ -209,7 +212,8 @@ module _ {w : World} {s : Both Peer} (f : BothFollow w s) {before later : Octets
       }) (omega arith)
 
 -- ---- an arrival, by the front of the right end's line
-front-follows : {w : World} {s : Both Peer} → BothFollow w s → (before : Octets) (ks : List Packet) → All Sound ks → (g : GivenFront (map encode ks) (w .left) before)
+front-follows : {w : World} {s : Both Peer} → BothFollow w s → (before : Octets) (ks : List Packet) → All Sound ks
+    → (g : GivenFront (map encode ks) (w .left) before)
     → BothFollow (arrived (map encode ks) before w g) (arrive rules (not (tooShort before)) ks s)
 front-follows f before [] h g = f
 front-follows {w} {s} f before (dataPdu x p ∷ ks) h g =

@@ -56,7 +56,8 @@ one-exchange = refl
 
 -- DATA 0 is delivered and answered with DACK 1; DATA 0 again is not delivered, and is answered with DACK 1 again
 abbrev sentOnce : Both End
-sentOnce = run rules (record { side = left; act = offer true (7 ∷ []) } ∷ record { side = left; act = timeout true } ∷ record { side = right; act = receive true } ∷ []) start
+sentOnce = run rules
+    (record { side = left; act = offer true (7 ∷ []) } ∷ record { side = left; act = timeout true } ∷ record { side = right; act = receive true } ∷ []) start
 
 abbrev sentTwice : Both End
 sentTwice = run rules (record { side = left; act = timeout true } ∷ record { side = right; act = receive true } ∷ []) sentOnce

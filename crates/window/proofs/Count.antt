@@ -12,7 +12,7 @@ use native.Mathlib.Omega.{arith}
 use lib.ListN.{length, length-append}
 use Rattle.window.specs.Packets.{Payload, Payloads}
 use Rattle.window.proofs.Rising.{Chain, chain-raise, chain-snoc, lastOr, lastOr-snoc}
-use Rattle.window.proofs.InFlight.{InFlight, indices, indices-++, batch, batch-chain}
+use Rattle.window.proofs.InFlight.{InFlight, sentNext, indices, indices-++, batch, batch-chain}
 
 -- with no DATA in flight, the last DACK on the way (or the base) acknowledges all that was sent
 abbrev pub Answered : List InFlight → ℕ → ℕ → Type 0
@@ -45,9 +45,9 @@ module _ {accepted base received reached : ℕ} {flight : List InFlight} {dacks 
 
   -- accepted and sent at once
   pub trail-send-one : (p : Payload) → reached ≡ accepted → Trail accepted base received reached flight dacks
-      → Trail (suc accepted) base received (suc accepted) (flight ++ (record { index = accepted; limit = suc accepted; payload = p } ∷ [])) dacks
+      → Trail (suc accepted) base received (suc accepted) (flight ++ (sentNext accepted p ∷ [])) dacks
   trail-send-one p e t =
-      let f : InFlight = record { index = accepted; limit = suc accepted; payload = p } in
+      let f : InFlight = sentNext accepted p in
       record {
         some = omega arith;
         chain = rw (indices-++ flight (f ∷ []), ← e) (chain-snoc received (indices flight) reached (t .chain));
@@ -57,16 +57,19 @@ module _ {accepted base received reached : ℕ} {flight : List InFlight} {dacks 
   pub trail-deliver : {f : InFlight} → f .index ≡ received → Trail accepted base received reached (f ∷ flight) dacks
       → Trail accepted base (suc received) reached flight (dacks ++ (suc received ∷ []))
   trail-deliver {f} h t =
-      let c : Chain (suc received) (indices flight) reached = chain-raise (suc (f .index)) (suc received) (indices flight) reached (omega (arith, h)) (t .chain .1) in
+      let c : Chain (suc received) (indices flight) reached =
+      chain-raise (suc (f .index)) (suc received) (indices flight) reached (omega (arith, h)) (t .chain .1) in
       record { some = t .some; chain = c; last = answered-end flight (suc received) reached base dacks c }
 
   pub trail-repeat : {f : InFlight} → f .index ≢ received → Trail accepted base received reached (f ∷ flight) dacks
       → Trail accepted base received reached flight (dacks ++ (received ∷ []))
   trail-repeat {f} h t =
-      let c : Chain received (indices flight) reached = chain-raise (suc (f .index)) received (indices flight) reached (omega (arith, h, t .chain .0)) (t .chain .1) in
+      let c : Chain received (indices flight) reached =
+      chain-raise (suc (f .index)) received (indices flight) reached (omega (arith, h, t .chain .0)) (t .chain .1) in
       record { some = t .some; chain = c; last = answered-end flight received reached base dacks c }
 
-pub trail-acknowledge : {accepted base received reached k : ℕ} (flight : List InFlight) {dacks : List ℕ} → Trail accepted base received reached flight (k ∷ dacks)
+pub trail-acknowledge : {accepted base received reached k : ℕ} (flight : List InFlight) {dacks : List ℕ}
+    → Trail accepted base received reached flight (k ∷ dacks)
     → Trail accepted k received reached flight dacks
 trail-acknowledge [] t = record { some = t .some; chain = t .chain; last = t .last }
 trail-acknowledge (f ∷ flight) t = record { some = t .some; chain = t .chain; last = tt }
@@ -111,7 +114,7 @@ module _ (W : ℕ) where
     count-accept (inr d) = inr (omega arith)
 
     pub count-send-one : (p : Payload) → reached ≡ accepted → Count accepted base received reached flight dacks sent lost
-        → Count (suc accepted) base received (suc accepted) (flight ++ (record { index = accepted; limit = suc accepted; payload = p } ∷ [])) dacks (suc sent) lost
+        → Count (suc accepted) base received (suc accepted) (flight ++ (sentNext accepted p ∷ [])) dacks (suc sent) lost
     count-send-one p e (inl c) = inl (record { sum = omega (arith, c .sum); trail = trail-send-one p e (c .trail) })
     count-send-one p e (inr d) = inr (omega arith)
 
@@ -126,7 +129,8 @@ module _ (W : ℕ) where
     count-repeat h (inl c) = inl (record { sum = c .sum; trail = trail-repeat h (c .trail) })
     count-repeat h (inr d) = inr d
 
-    pub count-acknowledge : {k : ℕ} → Count accepted base received reached flight (k ∷ dacks) sent lost → Count accepted k received reached flight dacks sent lost
+    pub count-acknowledge : {k : ℕ} → Count accepted base received reached flight (k ∷ dacks) sent lost
+        → Count accepted k received reached flight dacks sent lost
     count-acknowledge (inl c) = inl (record { sum = c .sum; trail = trail-acknowledge flight (c .trail) })
     count-acknowledge (inr d) = inr d
 

@@ -16,6 +16,10 @@ pub record InFlight : Type 0 where
   pub limit : ℕ
   pub payload : Payload
 
+-- the payload that is accepted behind n others and sent at once
+abbrev pub sentNext : ℕ → Payload → InFlight
+sentNext n p = record { index = n; limit = suc n; payload = p }
+
 abbrev pub indices : List InFlight → List ℕ
 indices fs = map (λ (f : InFlight). f .index) fs
 

@@ -5,7 +5,7 @@
 use Prim.Native.Nat.{ℕ, zero, suc, _+_, _%_}
 use mathlib.Core.Path.{_≡_, refl, ap, _∙_}
 use mathlib.Core.Option.{Option, none, some, Option·map}
-use mathlib.Core.List.{List, [], _∷_, _++_, map}
+use mathlib.Core.List.{List, [], _∷_, _++_, map, append-nil}
 use native.Mathlib.Omega.{arith}
 use lib.ListN.{length, getElem?}
 use Rattle.window.specs.Sides.{eraseAt}
@@ -28,27 +28,40 @@ dacksOf [] = []
 dacksOf (dataMark f ∷ g) = dacksOf g
 dacksOf (dackMark k ∷ g) = k ∷ dacksOf g
 
-pub dataOf-++ : (g h : List Mark) → dataOf (g ++ h) ≡ dataOf g ++ dataOf h
+dataOf-++ : (g h : List Mark) → dataOf (g ++ h) ≡ dataOf g ++ dataOf h
 dataOf-++ [] h = refl
 dataOf-++ (dataMark f ∷ g) h = ap (λ (t : List InFlight). f ∷ t) (dataOf-++ g h)
 dataOf-++ (dackMark k ∷ g) h = dataOf-++ g h
 
-pub dacksOf-++ : (g h : List Mark) → dacksOf (g ++ h) ≡ dacksOf g ++ dacksOf h
+dacksOf-++ : (g h : List Mark) → dacksOf (g ++ h) ≡ dacksOf g ++ dacksOf h
 dacksOf-++ [] h = refl
 dacksOf-++ (dataMark f ∷ g) h = dacksOf-++ g h
 dacksOf-++ (dackMark k ∷ g) h = ap (λ (t : List ℕ). k ∷ t) (dacksOf-++ g h)
 
 -- marks of DATA alone
-abbrev pub marks : List InFlight → List Mark
-marks fs = map dataMark fs
+abbrev pub dataMarks : List InFlight → List Mark
+dataMarks fs = map dataMark fs
 
-pub dataOf-marks : (fs : List InFlight) → dataOf (marks fs) ≡ fs
-dataOf-marks [] = refl
-dataOf-marks (f ∷ fs) = ap (λ (t : List InFlight). f ∷ t) (dataOf-marks fs)
+dataOf-dataMarks : (fs : List InFlight) → dataOf (dataMarks fs) ≡ fs
+dataOf-dataMarks [] = refl
+dataOf-dataMarks (f ∷ fs) = ap (λ (t : List InFlight). f ∷ t) (dataOf-dataMarks fs)
 
-pub dacksOf-marks : (fs : List InFlight) → dacksOf (marks fs) ≡ []
-dacksOf-marks [] = refl
-dacksOf-marks (f ∷ fs) = dacksOf-marks fs
+dacksOf-dataMarks : (fs : List InFlight) → dacksOf (dataMarks fs) ≡ []
+dacksOf-dataMarks [] = refl
+dacksOf-dataMarks (f ∷ fs) = dacksOf-dataMarks fs
+
+-- a line to which DATA is added, and one to which a DACK is added
+pub dataOf-sent : (g : List Mark) (fs : List InFlight) → dataOf (g ++ dataMarks fs) ≡ dataOf g ++ fs
+dataOf-sent g fs = dataOf-++ g (dataMarks fs) ∙ ap (λ (l : List InFlight). dataOf g ++ l) (dataOf-dataMarks fs)
+
+pub dacksOf-sent : (g : List Mark) (fs : List InFlight) → dacksOf (g ++ dataMarks fs) ≡ dacksOf g
+dacksOf-sent g fs = dacksOf-++ g (dataMarks fs) ∙ ap (λ (l : List ℕ). dacksOf g ++ l) (dacksOf-dataMarks fs) ∙ append-nil (dacksOf g)
+
+pub dataOf-answered : (g : List Mark) (k : ℕ) → dataOf (g ++ (dackMark k ∷ [])) ≡ dataOf g
+dataOf-answered g k = dataOf-++ g (dackMark k ∷ []) ∙ append-nil (dataOf g)
+
+pub dacksOf-answered : (g : List Mark) (k : ℕ) → dacksOf (g ++ (dackMark k ∷ [])) ≡ dacksOf g ++ (k ∷ [])
+dacksOf-answered g k = dacksOf-++ g (dackMark k ∷ [])
 
 module _ (dackNumber : ℕ → ℕ) where
   abbrev pub packetOf : Mark → Packet
@@ -56,7 +69,7 @@ module _ (dackNumber : ℕ → ℕ) where
   packetOf (dackMark k) = dackPdu (dackNumber (k % modulus))
 
   -- "send all" puts the batch on the line
-  pub numbered-batch : (c m x : ℕ) (q : Payloads) → x ≡ m % modulus → numbered x q ≡ map packetOf (marks (batch c m q))
+  pub numbered-batch : (c m x : ℕ) (q : Payloads) → x ≡ m % modulus → numbered x q ≡ map packetOf (dataMarks (batch c m q))
   numbered-batch c m x [] h = refl
   numbered-batch c m x (p ∷ q) h = λ i. dataPdu (h i) p ∷ numbered-batch c (suc m) ((x + 1) % modulus) q (omega arith) i
 

@@ -98,7 +98,8 @@ module _ (r : Rules) where
     incoming = omega (arith, ap length e);
     outgoing = omega arith;
     noData = refl;
-    leftAccepted = either (λ (y : Sender). y .accepted ≡ s .left .sender .accepted) (acknowledges (r .distance (s .left .sender .base) x) (s .left .sender .queue)) (λ b. refl) (λ b. refl);
+    leftAccepted = either (λ (y : Sender). y .accepted ≡ s .left .sender .accepted)
+        (acknowledges (r .distance (s .left .sender .base) x) (s .left .sender .queue)) (λ b. refl) (λ b. refl);
     rightAccepted = refl;
   }
 
@@ -146,13 +147,13 @@ module _ (r : Rules) where
     timer-begins : {a b : Assumed} (s : Both End) → Invariant r a b s → s .left .line ≡ [] → s .right .line ≡ [] → Begun b s (step r (timeout true) s)
     timer-begins {a} {b} s v el er = either (Begun b s) (ltb 0 (length (s .left .sender .queue)))
         (λ e. record {
-          holds = invariant-weaken r (λ u. absurd u) (λ u. drained) (λ u. u) (λ u. u) (invariant-send-all r v);
+          holds = invariant-weaken r (λ u. absurd u) (λ u. drained) (λ u. u) (λ u. u) (invariant-send-all r s v);
           outgoing = rw el (omega (arith, length-numbered (s .left .sender .base) (s .left .sender .queue)));
           incoming = er;
           accepted = refl;
         })
         (λ e. record {
-          holds = invariant-weaken r (λ u. absurd u) (λ u. u) (λ u. u) (λ u. u) (invariant-idle r v (nil-of (s .left .sender .queue) (ltb-false 0 _ e)) drained);
+          holds = invariant-weaken r (λ u. absurd u) (λ u. u) (λ u. u) (λ u. u) (invariant-idle r s v (nil-of (s .left .sender .queue) (ltb-false 0 _ e)) drained);
           outgoing = rw el (omega arith);
           incoming = er;
           accepted = refl;
@@ -162,24 +163,27 @@ module _ (r : Rules) where
         drained = (ap countData el, ap countDack er)
 
     -- ---- nothing of the left end's on the lines, and the trail: all is acknowledged, and so all is delivered
-    settled : {b : Assumed} (z : Both End) → Invariant r begun b z → Drained z → (z .left .sender .queue ≡ []) × (z .right .receiver .delivered ≡ z .left .sender .accepted)
+    settled : {b : Assumed} (z : Both End) → Invariant r begun b z → Drained z
+        → (z .left .sender .queue ≡ []) × (z .right .receiver .delivered ≡ z .left .sender .accepted)
     settled z v d = (
       nil-of (z .left .sender .queue) (omega (arith, flow-length r (v .leftFlow), acked)),
       sym (append-nil (z .right .receiver .delivered))
-          ∙ ap (λ (l : Payloads). z .right .receiver .delivered ++ l) (sym (nil-of (v .leftFlow .pending) (omega (arith, acked, behind, ap length (v .leftFlow .prefix), whole))))
-          ∙ v .leftFlow .prefix,
+          ∙ ap (λ (l : Payloads). z .right .receiver .delivered ++ l) (sym none-pending)
+          ∙ v .leftFlow .placed .prefix,
     )
       where
-        acked : length (z .left .sender .accepted) ≤ length (v .leftAcked)
+        acked : length (z .left .sender .accepted) ≤ length (v .left .acked)
         acked = trail-end (rw (drained-marks r v d .0, drained-marks r v d .1) at (v .leftFlow .trail tt))
 
-        behind : length (v .leftAcked) ≤ length (z .right .receiver .delivered)
-        behind = rising-le (length (v .leftAcked)) (dacksOf (v .rightMarks)) (length (z .right .receiver .delivered)) (v .leftFlow .window .acks)
+        behind : length (v .left .acked) ≤ length (z .right .receiver .delivered)
+        behind = rising-le (length (v .left .acked)) (dacksOf (v .right .marks)) (length (z .right .receiver .delivered)) (v .leftFlow .window .acks)
 
-        whole : length (z .right .receiver .delivered ++ v .leftFlow .pending) ≡ length (z .right .receiver .delivered) + length (v .leftFlow .pending)
-        whole = length-append (z .right .receiver .delivered) (v .leftFlow .pending)
+        none-pending : v .leftFlow .placed .pending ≡ []
+        none-pending = nil-of (v .leftFlow .placed .pending)
+            (omega (arith, acked, behind, ap length (v .leftFlow .placed .prefix), length-append (z .right .receiver .delivered) (v .leftFlow .placed .pending)))
 
-    progress-left : {a b : Assumed} (s : Both End) → Invariant r a b s → s .left .line ≡ [] → s .right .line ≡ [] → (k m : ℕ) → length (s .left .sender .queue) ≤ k → k ≤ m
+    progress-left : {a b : Assumed} (s : Both End) → Invariant r a b s → s .left .line ≡ [] → s .right .line ≡ [] → (k m : ℕ)
+        → length (s .left .sender .queue) ≤ k → k ≤ m
         → Settled left s (run r (exchange left k m) s)
     progress-left {a} {b} s v el er k m hk hm = rw path (record {
       queue = done .0;

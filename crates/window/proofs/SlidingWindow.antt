@@ -14,7 +14,7 @@ use Rattle.window.specs.Ends.{Rules, Lawful, Sender, Receiver, End}
 use Rattle.window.specs.Events.{Act, offer, timeout, receive, lose, Event, fresh, start, arrive, step, stepAt, run, Waits, WaitsAt, TimerWaits, Drained}
 use Rattle.window.specs.Claim.{OneWay, SlidingWindow}
 use Rattle.window.proofs.Flow.{assumed, Flow, flow-bound}
-use Rattle.window.proofs.Invariant.{Invariant, invariant-mirror, invariant-weaken, invariant-accept, invariant-send-all, invariant-lose}
+use Rattle.window.proofs.Invariant.{Ghost, Invariant, invariant-mirror, invariant-weaken, invariant-accept, invariant-send-all, invariant-lose}
 use Rattle.window.proofs.Receive.{invariant-arrive, invariant-refuse}
 
 module _ (r : Rules) (law : Lawful r) where
@@ -23,7 +23,8 @@ module _ (r : Rules) (law : Lawful r) where
   right-true false b e = cc
 
   -- ---- one event at the left end, at either end, and a list of them
-  arrive-by : (ok : Bool) {P Q : Type 0} (s : Both End) → Invariant r (assumed P) (assumed Q) s → Invariant r (assumed P) (assumed Q) (arrive r ok (s .right .line) s)
+  arrive-by : (ok : Bool) {P Q : Type 0} (s : Both End) → Invariant r (assumed P) (assumed Q) s
+      → Invariant r (assumed P) (assumed Q) (arrive r ok (s .right .line) s)
   arrive-by true s v = invariant-arrive r law s v
   arrive-by false s v = invariant-refuse r law s v
 
@@ -31,15 +32,17 @@ module _ (r : Rules) (law : Lawful r) where
   keep : {P Q R : Type 0} {s : Both End} → Invariant r (assumed P) (assumed Q) s → Invariant r (assumed (P × R)) (assumed Q) s
   keep v = invariant-weaken r (λ u. u .0) (λ u. u) (λ u. u) (λ u. u) v
 
-  invariant-step : (a : Act) {P Q : Type 0} (s : Both End) → Invariant r (assumed P) (assumed Q) s → Invariant r (assumed (P × Waits a s)) (assumed Q) (step r a s)
+  invariant-step : (a : Act) {P Q : Type 0} (s : Both End) → Invariant r (assumed P) (assumed Q) s
+      → Invariant r (assumed (P × Waits a s)) (assumed Q) (step r a s)
   invariant-step (offer ok p) {P} {Q} s v =
+      let room = ltb (length (s .left .sender .queue)) (r .window) in
       keep (either (Invariant r (assumed P) (assumed Q)) (ok && ltb (length (s .left .sender .queue)) (r .window))
-      (λ e. invariant-accept r v p (ltb-true (length (s .left .sender .queue)) (r .window) (right-true ok (ltb (length (s .left .sender .queue)) (r .window)) e))) (λ e. v))
+      (λ e. invariant-accept r s v p (ltb-true (length (s .left .sender .queue)) (r .window) (right-true ok room e))) (λ e. v))
   invariant-step (timeout ok) {P} {Q} s v =
       either (Invariant r (assumed (P × Drained s)) (assumed Q)) (ok && ltb 0 (length (s .left .sender .queue)))
-      (λ e. invariant-weaken r (λ u. u) (λ u. absurd u) (λ u. u) (λ u. u) (invariant-send-all r v)) (λ e. keep v)
+      (λ e. invariant-weaken r (λ u. u) (λ u. absurd u) (λ u. u) (λ u. u) (invariant-send-all r s v)) (λ e. keep v)
   invariant-step (receive ok) s v = keep (arrive-by ok s v)
-  invariant-step (lose n) s v = keep (invariant-lose r v n)
+  invariant-step (lose n) s v = keep (invariant-lose r s v n)
 
   invariant-stepAt : (d : Side) (a : Act) {P Q : Type 0} (s : Both End) → Invariant r (assumed P) (assumed Q) s
       → Invariant r (assumed (P × WaitsAt left d a s)) (assumed (Q × WaitsAt right d a s)) (stepAt r d a s)
@@ -56,11 +59,7 @@ module _ (r : Rules) (law : Lawful r) where
   -- ---- the start
   flow-start : Flow r (assumed (Unit {0})) [] 0 (fresh .sender) (fresh .receiver) [] []
   flow-start = record {
-    pending = [];
-    split = refl;
-    prefix = refl;
-    base = refl;
-    expected = refl;
+    placed = record { pending = []; split = refl; prefix = refl; residue = refl; expected = refl };
     window = record { acks = omega arith; ahead = omega arith; room = omega arith; fits = tt };
     once = λ t. refl;
     count = λ h. inl (record { sum = omega arith; trail = record { some = omega arith; chain = omega arith; last = omega arith } });
@@ -68,24 +67,15 @@ module _ (r : Rules) (law : Lawful r) where
   }
 
   pub invariant-start : Invariant r (assumed (Unit {0})) (assumed (Unit {0})) start
-  invariant-start = record {
-    leftMarks = [];
-    rightMarks = [];
-    leftAcked = [];
-    rightAcked = [];
-    leftReached = 0;
-    rightReached = 0;
-    leftLine = refl;
-    rightLine = refl;
-    leftFlow = flow-start;
-    rightFlow = flow-start;
-  }
+  invariant-start =
+      let nothing : Ghost = record { marks = []; acked = []; reached = 0 } in
+      record { left = nothing; right = nothing; leftLine = refl; rightLine = refl; leftFlow = flow-start; rightFlow = flow-start }
 
   -- ---- what the sliding window gives
   pub sliding-window : (es : List Event) → SlidingWindow r es
   sliding-window es =
       let v = invariant-run es start invariant-start in
       record {
-        leftToRight = record { prefix = (v .leftFlow .pending, v .leftFlow .prefix); bound = λ h. flow-bound r (v .leftFlow) (tt, h) };
-        rightToLeft = record { prefix = (v .rightFlow .pending, v .rightFlow .prefix); bound = λ h. flow-bound r (v .rightFlow) (tt, h) };
+        leftToRight = record { prefix = (v .leftFlow .placed .pending, v .leftFlow .placed .prefix); bound = λ h. flow-bound r (v .leftFlow) (tt, h) };
+        rightToLeft = record { prefix = (v .rightFlow .placed .pending, v .rightFlow .placed .prefix); bound = λ h. flow-bound r (v .rightFlow) (tt, h) };
       }

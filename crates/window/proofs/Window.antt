@@ -18,7 +18,7 @@ use lib.ListN.{length, length-append, getElem?}
 use Rattle.window.specs.Sides.{eraseAt}
 use Rattle.window.specs.Packets.{modulus, Payload, Payloads}
 use Rattle.window.proofs.Rising.{Rising, rising-lower, rising-upper, rising-le, rising-++, rising-eraseAt, rising-snoc}
-use Rattle.window.proofs.InFlight.{InFlight, limits, limits-++, map-eraseAt, All, all-++, all-eraseAt, all-map, get-++, get-seam, batch, batch-rising}
+use Rattle.window.proofs.InFlight.{InFlight, sentNext, limits, limits-++, map-eraseAt, All, all-++, all-eraseAt, all-map, get-++, get-seam, batch, batch-rising}
 
 module _ (W : ℕ) where
   -- a DATA in flight carries the payload at its index, and its limit is above the index by 1 to W
@@ -53,11 +53,13 @@ module _ (W : ℕ) where
     }
 
     -- a DACK moves the base to what it acknowledges
-    pub window-acknowledge : {k : ℕ} {flight : List InFlight} {dacks : List ℕ} → InWindow accepted base received flight (k ∷ dacks) → InWindow accepted k received flight dacks
+    pub window-acknowledge : {k : ℕ} {flight : List InFlight} {dacks : List ℕ} → InWindow accepted base received flight (k ∷ dacks)
+        → InWindow accepted k received flight dacks
     window-acknowledge v = record { acks = v .acks .1; ahead = v .ahead; room = omega (arith, v .acks .0, v .room); fits = v .fits }
 
     -- losses leave gaps and no disorder
-    pub window-lose-data : (n : ℕ) {flight : List InFlight} {dacks : List ℕ} → InWindow accepted base received flight dacks → InWindow accepted base received (eraseAt n flight) dacks
+    pub window-lose-data : (n : ℕ) {flight : List InFlight} {dacks : List ℕ} → InWindow accepted base received flight dacks
+        → InWindow accepted base received (eraseAt n flight) dacks
     window-lose-data n {flight} v = record {
       acks = v .acks;
       ahead = rw (map-eraseAt (λ (f : InFlight). f .limit) n flight) (rising-eraseAt n received (limits flight) (length accepted) (v .ahead));
@@ -65,7 +67,8 @@ module _ (W : ℕ) where
       fits = all-eraseAt (Fits accepted) n flight (v .fits);
     }
 
-    pub window-lose-dack : (n : ℕ) {flight : List InFlight} {dacks : List ℕ} → InWindow accepted base received flight dacks → InWindow accepted base received flight (eraseAt n dacks)
+    pub window-lose-dack : (n : ℕ) {flight : List InFlight} {dacks : List ℕ} → InWindow accepted base received flight dacks
+        → InWindow accepted base received flight (eraseAt n dacks)
     window-lose-dack n {dacks = dacks} v = record { acks = rising-eraseAt n base dacks received (v .acks); ahead = v .ahead; room = v .room; fits = v .fits }
 
     module _ {flight : List InFlight} {dacks : List ℕ} (w : W < modulus) where
@@ -101,13 +104,14 @@ module _ (W : ℕ) where
   -- the payload just accepted is sent at once
   pub window-send-one : (accepted : Payloads) {base received : ℕ} {flight : List InFlight} {dacks : List ℕ} (p : Payload) → 0 < W
       → InWindow (accepted ++ (p ∷ [])) base received flight dacks
-      → InWindow (accepted ++ (p ∷ [])) base received (flight ++ (record { index = length accepted; limit = suc (length accepted); payload = p } ∷ [])) dacks
+      → InWindow (accepted ++ (p ∷ [])) base received (flight ++ (sentNext (length accepted) p ∷ [])) dacks
   window-send-one accepted {base} {received} {flight} p w v =
-      let f : InFlight = record { index = length accepted; limit = suc (length accepted); payload = p } in
+      let f : InFlight = sentNext (length accepted) p in
       let l : length (accepted ++ (p ∷ [])) ≡ suc (length accepted) = omega (arith, length-append accepted (p ∷ [])) in
       record {
         acks = v .acks;
-        ahead = rw (limits-++ flight (f ∷ []), l) (rising-snoc received (limits flight) (suc (length accepted)) (suc (length accepted)) (omega arith) (rw l at (v .ahead)));
+        ahead = rw (limits-++ flight (f ∷ []), l)
+            (rising-snoc received (limits flight) (suc (length accepted)) (suc (length accepted)) (omega arith) (rw l at (v .ahead)));
         room = v .room;
         fits = all-++ (Fits (accepted ++ (p ∷ []))) flight (f ∷ []) (v .fits) ((omega arith, omega arith, get-seam accepted p []), tt);
       }
@@ -121,13 +125,15 @@ module _ (W : ℕ) where
   )
 
   -- the queue q, which stands behind the acknowledged payloads, is sent; at any time
-  pub window-send-all : {base received : ℕ} {flight : List InFlight} {dacks : List ℕ} (before q : Payloads) → length before ≡ base → InWindow (before ++ q) base received flight dacks
+  pub window-send-all : {base received : ℕ} {flight : List InFlight} {dacks : List ℕ} (before q : Payloads) → length before ≡ base
+      → InWindow (before ++ q) base received flight dacks
       → InWindow (before ++ q) base received (flight ++ batch (length (before ++ q)) base q) dacks
   window-send-all {base} {received} {flight} before q g v =
       let c = length (before ++ q) in
       record {
         acks = v .acks;
-        ahead = rw (limits-++ flight (batch (length (before ++ q)) base q)) (rising-++ received (limits flight) c (limits (batch c base q)) c (v .ahead) (batch-rising c base q));
+        ahead = rw (limits-++ flight (batch (length (before ++ q)) base q))
+            (rising-++ received (limits flight) c (limits (batch c base q)) c (v .ahead) (batch-rising c base q));
         room = v .room;
         fits = all-++ (Fits (before ++ q)) flight (batch c base q) (v .fits) (batch-fits c base before q g (omega (arith, length-append before q)) (v .room));
       }
