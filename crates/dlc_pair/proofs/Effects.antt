@@ -4,24 +4,26 @@
 -- Each effect is a nest of choices over Bools, so that a proof goes by cases on the Bools and never opens a contract.
 use Prim.Native.Nat.{ℕ, zero, suc, _+_, _%_, _≤_, _<_}
 use native.Mathlib.Omega.{arith}
+use native.Mathlib.Nat.{add-zero}
 use mathlib.Core.Path.{_≡_, refl, sym, ap, _∙_}
 use mathlib.Core.Bool.{Bool, true, false, cond, not, _&&_}
-use mathlib.Core.List.{List, [], _∷_, _++_}
+use mathlib.Core.Logic.{_≢_}
+use mathlib.Core.List.{List, [], _∷_, _++_, append-nil}
 use lib.ListN.{length, length-append, length-drop}
 use lib.Dec.{leb, ltb, eqb, leb·suc-zero}
 use borrow.Author.Tests.{lt-ltb, le-ltb, leb-true, leb-false}
 use Rattle.dlc_packet.proofs.Numbers.{distance-dackNumber}
 use Rattle.dlc_packet.specs.declared.Kind.{Kind}
-use Rattle.dlc.specs.Limits.{modulus, slots, maxPayload, replySize, dackNumber, distance, dataPackets}
-use Rattle.dlc.specs.Answers.{done, tooLong, notOpen, queueFull, noEntry, otherNumber, shortReply}
+use Rattle.dlc.specs.Limits.{modulus, slots, maxPayload, replySize, dackNumber, distance, dackPacket, dataPackets}
+use Rattle.dlc.specs.Answers.{done, tooLong, notOpen, queueFull, noEntry, otherNumber, shortReply, illFormed}
 use Rattle.dlc.specs.Model.{Model}
 use Rattle.dlc.specs.Events.{Effect, effect, refuse, expectNext, dackOf, judged, dataStep, stateOf, without, dackStep, timerStep, startStep, withPayload, queued, isOpen, packetStep, startOf, timerOf, payloadOf, arrivalOf}
 use Rattle.window.specs.Packets.{dataPdu, dackPdu}
-use Rattle.window.specs.Ends.{Rules, Lawful, End as Peer, Sender, freed, lostOne, acknowledges, withSender, accept, sendAll, takeData}
+use Rattle.window.specs.Ends.{Rules, Lawful, End as Peer, Sender, Receiver, freed, lostOne, acknowledges, withSender, accept, sendAll, answering, takeData}
 use Rattle.window.proofs.InFlight.{all-++}
 use Rattle.dlc_pair.specs.World.{Octets, Packets}
 use Rattle.dlc_pair.proofs.Codec.{encode, Sound, Short, short-drop, kindOf-data, kindOf-dack}
-use Rattle.dlc_pair.proofs.Relation.{modelOf, Fits}
+use Rattle.dlc_pair.proofs.Relation.{modelOf, Fits, Becomes}
 
 -- ---- this link as an instance of the sliding window: its slots, its DACK numbers, nothing sent at once
 abbrev pub rules : Rules
@@ -56,6 +58,47 @@ module _ (a : Peer) (f : Fits a) where
     short = short-drop n (a .sender .queue) (f .short);
     few = omega (arith, length-drop n (a .sender .queue), f .few);
   }
+
+-- ---- an effect as a step of the packet system's end
+-- that leaves the line alone, and changes the sending half
+pub becomes-sender : {d : Effect} {a : Peer} (x : Sender) {n : ℕ} → d .after ≡ modelOf (withSender x a) → d .packets ≡ [] → d .code ≢ illFormed
+    → x .accepted ≡ a .sender .accepted
+    → x .sent ≡ a .sender .sent
+    → x .lost ≡ a .sender .lost + n
+    → Fits (withSender x a)
+    → Becomes d a (withSender x a) [] [] [] n
+becomes-sender {a = a} x model packets code accepted sent lost fits = record {
+  model = model;
+  packets = packets;
+  code = code;
+  line = sym (append-nil (a .line));
+  accepts = accepted ∙ sym (append-nil (a .sender .accepted));
+  delivers = sym (append-nil (a .receiver .delivered));
+  sent = sent ∙ sym (add-zero (a .sender .sent));
+  loses = lost;
+  fits = fits;
+  sound = tt;
+}
+
+-- that answers by a DACK, the receiving half being y now
+pub becomes-answer : {d : Effect} {a : Peer} (y : Receiver) {up : Packets} → d .after ≡ modelOf (answering rules y a)
+    → d .packets ≡ dackPacket (dackNumber (y .expected)) ∷ []
+    → d .code ≢ illFormed
+    → y .delivered ≡ a .receiver .delivered ++ up
+    → Fits (answering rules y a)
+    → Becomes d a (answering rules y a) (dackPdu (dackNumber (y .expected)) ∷ []) [] up 0
+becomes-answer {a = a} y model packets code delivers fits = record {
+  model = model;
+  packets = packets;
+  code = code;
+  line = refl;
+  accepts = sym (append-nil (a .sender .accepted));
+  delivers = delivers;
+  sent = sym (add-zero (a .sender .sent));
+  loses = sym (add-zero (a .sender .lost));
+  fits = fits;
+  sound = (fits .expected, tt);
+}
 
 -- ---- start: 26 or 24
 abbrev pub startEffect : Bool → Model → Effect

@@ -111,7 +111,9 @@ module _ {w : World} {m m′ : Model} {ks : Packets} (q : Octets) (s : Stands (w
     where
       at-line : (l : Packets) → l ≡ q ∷ [] → (g : GivenFront l (w .left) before)
           → Stands (arrived l before w g .left) (d .after) (ks ++ d .packets) × Stands (arrived l before w g .right) m′ []
-      at-line l h = subst (λ (l : Packets). (g : GivenFront l (w .left) before) → Stands (arrived l before w g .left) (d .after) (ks ++ d .packets) × Stands (arrived l before w g .right) m′ [])
+      at-line l h = subst
+          (λ (l : Packets). (g : GivenFront l (w .left) before)
+          → Stands (arrived l before w g .left) (d .after) (ks ++ d .packets) × Stands (arrived l before w g .right) m′ [])
           (sym h) stands-front
 
 -- ---- a link in each state on the way: queue empty, numbers 0

@@ -16,10 +16,10 @@ use Rattle.dlc.specs.Limits.{modulus, slots, maxPayload, replySize, dackNumber,
 use Rattle.dlc.specs.Answers.{done, tooLong, queueFull, noEntry, shortReply, illFormed}
 use Rattle.dlc.specs.Model.{Model, view}
 use Rattle.dlc.specs.Events.{Effect, refuse, startOf, timerOf, payloadOf, arrivalOf}
-use Rattle.dlc.specs.Calls.{Meets, deliveredPart}
+use Rattle.dlc.specs.Calls.{answerOf, Meets, deliveredPart}
 use Rattle.window.specs.Sides.{Both, eraseAt}
 use Rattle.window.specs.Packets.{Packet, dataPdu, dackPdu, numbered}
-use Rattle.window.specs.Ends.{End as Peer, freed, lostOne, acknowledges, withLine, withSender, accept, sendAll, takeData}
+use Rattle.window.specs.Ends.{End as Peer, delivering, freed, lostOne, acknowledges, withLine, withSender, accept, sendAll, takeData}
 use Rattle.window.specs.Events.{Act as PacketAct, offer, timeout, receive, lose, loseAt, arrive, step}
 use Rattle.window.proofs.InFlight.{All, all-eraseAt, map-eraseAt}
 use Rattle.window.proofs.Marks.{get-map}
@@ -27,7 +27,7 @@ use Rattle.dlc_pair.specs.World.{Octets, Packets, isData, isDack, one, W
 use Rattle.dlc_pair.specs.History.{Act, payload, timer, start, arrival, loss, GivenFront, Given, called, relined, acceptedBy, deliveredBy, lostBy, arrived, lostAt, after}
 use Rattle.dlc_pair.proofs.Codec.{encode, Sound, dataBit, dackBit, isData-encode, isDack-encode, dataPackets-numbered, sound-numbered}
 use Rattle.dlc_pair.proofs.Relation.{modelOf, Fits, Follows, BothFollow, Becomes, follows-called, becomes-same, losing, follows-relined}
-use Rattle.dlc_pair.proofs.Effects.{rules, fits-accept, fits-sendAll, fits-takeData, fits-lostOne, fits-freed, startEffect, startOf-open, payloadEffect, payloadOf-open, ltb-not-leb, withPayload-accept, timerEffect, timerOf-open, dataEffect, arrivalOf-data, dackEffect, arrivalOf-dack}
+use Rattle.dlc_pair.proofs.Effects.{rules, fits-accept, fits-sendAll, fits-takeData, fits-lostOne, fits-freed, becomes-sender, becomes-answer, startEffect, startOf-open, payloadEffect, payloadOf-open, ltb-not-leb, withPayload-accept, timerEffect, timerOf-open, dataEffect, arrivalOf-data, dackEffect, arrivalOf-dack}
 
 -- a reply buffer that every call refuses
 abbrev pub tooShort : Octets → Bool
@@ -45,6 +45,13 @@ actOf (loss n) = lose n
 -- at the left end, the contract of an effect that is known
 abbrev Met : World → Octets → Octets → Outcome → Effect → Type 0
 Met w before later r d = Meets d (w .left .link) before later r
+
+-- what an effect delivers of the packet k, and whether a packet is lost by it
+abbrev deliveredWhen : Packet → Effect → Packets
+deliveredWhen k d = cond (dataBit k && eqb (d .code) done) (deliveredPart (d .delivered) (encode k) ∷ []) []
+
+abbrev lostWhen : Bool → Effect → ℕ
+lostWhen counts d = one (counts && eqb (d .code) shortReply)
 
 module _ {w : World} {s : Both Peer} (f : BothFollow w s) {before later : Octets} {r : Outcome} where
   met : (e : Model → Effect) {d : Effect} → e (modelOf (s .left)) ≡ d → Met w before later r (e (view (w .left .link))) → Met w before later r d
@@ -106,8 +113,8 @@ module _ {w : World} {s : Both Peer} (f : BothFollow w s) {before later : Octets
 
   -- ---- an arrival of the packet k, behind which ks are on the line: the left end comes to b, and the right end has lost n
   arrival-follows : (k : Packet) (ks : List Packet) → Sound k → All Sound ks → {d : Effect} → Met w before later r d → {b : Peer} {js : List Packet} (n : ℕ)
-      → Becomes d (s .left) b js [] (cond (dataBit k && eqb (d .code) done) (deliveredPart (d .delivered) (encode k) ∷ []) []) (one (dackBit k && eqb (d .code) shortReply))
-      → n ≡ s .right .sender .lost + one (dataBit k && eqb (d .code) shortReply)
+      → Becomes d (s .left) b js [] (deliveredWhen k d) (lostWhen (dackBit k) d)
+      → n ≡ s .right .sender .lost + lostWhen (dataBit k) d
       → BothFollow
       (record {
         left = called r later [] (deliveredBy (encode k) (r .answer)) (lostBy (isDack (encode k)) (r .answer)) (w .left);
@@ -115,18 +122,18 @@ module _ {w : World} {s : Both Peer} (f : BothFollow w s) {before later : Octets
       })
       (record { left = b; right = record { sender = losing n (s .right .sender); receiver = s .right .receiver; line = ks } })
   arrival-follows k ks h hs {d} m {b} {js} n c e =
-      let a : r .answer ≡ _ = m .returns .answer in
-      let up : deliveredBy (encode k) (r .answer) ≡ cond (dataBit k && eqb (d .code) done) (deliveredPart (d .delivered) (encode k) ∷ []) [] =
-      ap (λ (t : Answer). deliveredBy (encode k) t) a
-      ∙ ap (λ (t : Bool). cond (t && eqb (d .code) done) (deliveredPart (d .delivered) (encode k) ∷ []) []) (isData-encode k h) in
-      let dack-gone : lostBy (isDack (encode k)) (r .answer) ≡ one (dackBit k && eqb (d .code) shortReply) =
-      ap (λ (t : Answer). lostBy (isDack (encode k)) t) a ∙ ap (λ (t : Bool). one (t && eqb (d .code) shortReply)) (isDack-encode k h) in
-      let data-gone : lostBy (isData (encode k)) (r .answer) ≡ one (dataBit k && eqb (d .code) shortReply) =
-      ap (λ (t : Answer). lostBy (isData (encode k)) t) a ∙ ap (λ (t : Bool). one (t && eqb (d .code) shortReply)) (isData-encode k h) in
+      let a : r .answer ≡ answerOf d = m .returns .answer in
+      let up : deliveredBy (encode k) (r .answer) ≡ deliveredWhen k d =
+      ap (deliveredBy (encode k)) a ∙ ap (λ (t : Bool). cond (t && eqb (d .code) done) (deliveredPart (d .delivered) (encode k) ∷ []) []) (isData-encode k h) in
+      let dack : lostBy (isDack (encode k)) (r .answer) ≡ lostWhen (dackBit k) d =
+      ap (lostBy (isDack (encode k))) a ∙ ap (λ (t : Bool). lostWhen t d) (isDack-encode k h) in
+      let data′ : lostBy (isData (encode k)) (r .answer) ≡ lostWhen (dataBit k) d =
+      ap (lostBy (isData (encode k))) a ∙ ap (λ (t : Bool). lostWhen t d) (isData-encode k h) in
+      let c′ : Becomes d (s .left) b js [] (deliveredWhen k d) (lostBy (isDack (encode k)) (r .answer)) =
+      subst (Becomes d (s .left) b js [] (deliveredWhen k d)) (sym dack) c in
       record {
-        left = follows-called m (f .left)
-            (subst (λ (t : Packets). Becomes d (s .left) b js [] t (lostBy (isDack (encode k)) (r .answer))) (sym up) (subst (Becomes d (s .left) b js [] (cond (dataBit k && eqb (d .code) done) (deliveredPart (d .delivered) (encode k) ∷ []) [])) (sym dack-gone) c));
-        right = follows-relined (f .right) (map encode ks) ks _ n refl hs (e ∙ ap (λ (t : ℕ). s .right .sender .lost + t) (sym data-gone));
+        left = follows-called m (f .left) (subst (λ (t : Packets). Becomes d (s .left) b js [] t (lostBy (isDack (encode k)) (r .answer))) (sym up) c′);
+        right = follows-relined (f .right) (map encode ks) ks _ n refl hs (e ∙ ap (λ (t : ℕ). s .right .sender .lost + t) (sym data′));
       }
 
   data-follows : (x : ℕ) (p : Octets) (ks : List Packet) → Sound (dataPdu x p) → All Sound ks → (short hit : Bool)
@@ -140,35 +147,15 @@ module _ {w : World} {s : Both Peer} (f : BothFollow w s) {before later : Octets
       (record { left = takeData rules hit p (s .left); right = withLine ks (s .right) })
       (record { left = s .left; right = withSender (lostOne (s .right .sender)) (withLine ks (s .right)) }))
   data-follows x p ks h hs true hit m =
-      arrival-follows (dataPdu x p) ks h hs m (suc (s .right .sender .lost)) (becomes-same shortReply refl (λ e. omega (arith, e)) (f .left .fits) refl refl refl) (omega arith)
+      arrival-follows (dataPdu x p) ks h hs m (suc (s .right .sender .lost))
+      (becomes-same shortReply refl (λ e. omega (arith, e)) (f .left .fits) refl refl refl) (omega arith)
   data-follows x p ks h hs false true m =
       arrival-follows (dataPdu x p) ks h hs m (s .right .sender .lost)
-      (record {
-        model = refl;
-        packets = refl;
-        code = λ e. omega (arith, e);
-        line = refl;
-        accepts = sym (append-nil (s .left .sender .accepted));
-        delivers = refl;
-        sent = sym (add-zero (s .left .sender .sent));
-        loses = sym (add-zero (s .left .sender .lost));
-        fits = fits-takeData (s .left) (f .left .fits) true p;
-        sound = (omega arith, tt);
-      }) (omega arith)
+      (becomes-answer (delivering p (s .left .receiver)) refl refl (λ e. omega (arith, e)) refl (fits-takeData (s .left) (f .left .fits) true p)) (omega arith)
   data-follows x p ks h hs false false m =
       arrival-follows (dataPdu x p) ks h hs m (s .right .sender .lost)
-      (record {
-        model = refl;
-        packets = refl;
-        code = λ e. omega (arith, e);
-        line = refl;
-        accepts = sym (append-nil (s .left .sender .accepted));
-        delivers = sym (append-nil (s .left .receiver .delivered));
-        sent = sym (add-zero (s .left .sender .sent));
-        loses = sym (add-zero (s .left .sender .lost));
-        fits = fits-takeData (s .left) (f .left .fits) false p;
-        sound = (f .left .fits .expected, tt);
-      }) (omega arith)
+      (becomes-answer (s .left .receiver) refl refl (λ e. omega (arith, e)) (sym (append-nil (s .left .receiver .delivered)))
+      (fits-takeData (s .left) (f .left .fits) false p)) (omega arith)
 
   dack-follows : (x : ℕ) (ks : List Packet) → x < modulus → All Sound ks → (d : ℕ) (short frees : Bool)
       → Met w before later r (dackEffect short frees (modelOf (s .left)) d)
@@ -182,34 +169,13 @@ module _ {w : World} {s : Both Peer} (f : BothFollow w s) {before later : Octets
       (record { left = withSender (lostOne (s .left .sender)) (s .left); right = withLine ks (s .right) }))
   dack-follows x ks h hs d true frees m =
       arrival-follows (dackPdu x) ks h hs m (s .right .sender .lost)
-      (record {
-        model = refl;
-        packets = refl;
-        code = λ e. omega (arith, e);
-        line = sym (append-nil (s .left .line));
-        accepts = sym (append-nil (s .left .sender .accepted));
-        delivers = sym (append-nil (s .left .receiver .delivered));
-        sent = sym (add-zero (s .left .sender .sent));
-        loses = omega arith;
-        fits = fits-lostOne (s .left) (f .left .fits);
-        sound = tt;
-      }) (omega arith)
+      (becomes-sender (lostOne (s .left .sender)) refl refl (λ e. omega (arith, e)) refl refl (omega arith) (fits-lostOne (s .left) (f .left .fits))) (omega arith)
   dack-follows x ks h hs d false false m =
-      arrival-follows (dackPdu x) ks h hs m (s .right .sender .lost) (becomes-same noEntry refl (λ e. omega (arith, e)) (f .left .fits) refl refl refl) (omega arith)
+      arrival-follows (dackPdu x) ks h hs m (s .right .sender .lost)
+      (becomes-same noEntry refl (λ e. omega (arith, e)) (f .left .fits) refl refl refl) (omega arith)
   dack-follows x ks h hs d false true m =
       arrival-follows (dackPdu x) ks h hs m (s .right .sender .lost)
-      (record {
-        model = refl;
-        packets = refl;
-        code = λ e. omega (arith, e);
-        line = sym (append-nil (s .left .line));
-        accepts = sym (append-nil (s .left .sender .accepted));
-        delivers = sym (append-nil (s .left .receiver .delivered));
-        sent = sym (add-zero (s .left .sender .sent));
-        loses = sym (add-zero (s .left .sender .lost));
-        fits = fits-freed (s .left) (f .left .fits) d;
-        sound = tt;
-      }) (omega arith)
+      (becomes-sender (freed d (s .left .sender)) refl refl (λ e. omega (arith, e)) refl refl (omega arith) (fits-freed (s .left) (f .left .fits) d)) (omega arith)
 
 -- ---- an arrival, by the front of the right end's line
 front-follows : {w : World} {s : Both Peer} → BothFollow w s → (before : Octets) (ks : List Packet) → All Sound ks
@@ -249,9 +215,11 @@ module _ {w : World} {s : Both Peer} (f : BothFollow w s) (n : ℕ) where
   lose-follows : (k : Option Packet) → getElem? (s .left .line) n ≡ k → BothFollow (lostAt n (Option·map encode k) w) (loseAt n k s)
   lose-follows none e = f
   lose-follows (some (dataPdu x p)) e =
-      lost-follows (dataPdu x p) (sound-at n (s .left .line) (dataPdu x p) (f .left .sound) e) (suc (s .left .sender .lost)) (s .right .sender .lost) (omega arith) (omega arith)
+      lost-follows (dataPdu x p) (sound-at n (s .left .line) (dataPdu x p) (f .left .sound) e)
+      (suc (s .left .sender .lost)) (s .right .sender .lost) (omega arith) (omega arith)
   lose-follows (some (dackPdu x)) e =
-      lost-follows (dackPdu x) (sound-at n (s .left .line) (dackPdu x) (f .left .sound) e) (s .left .sender .lost) (suc (s .right .sender .lost)) (omega arith) (omega arith)
+      lost-follows (dackPdu x) (sound-at n (s .left .line) (dackPdu x) (f .left .sound) e)
+      (s .left .sender .lost) (suc (s .right .sender .lost)) (omega arith) (omega arith)
 
 -- ---- an event at the left end
 pub step-follows : (a : Act) {w : World} {s : Both Peer} → BothFollow w s → (g : Given a w) → BothFollow (after a w g) (step rules (actOf a) s)
@@ -269,7 +237,9 @@ step-follows (arrival before) {w} {s} f g = at-line (w .right .line) (f .right .
   where
     at-line : (l : Packets) → l ≡ map encode (s .right .line) → (g : GivenFront l (w .left) before)
         → BothFollow (arrived l before w g) (arrive rules (not (tooShort before)) (s .right .line) s)
-    at-line l e = subst (λ (l : Packets). (g : GivenFront l (w .left) before) → BothFollow (arrived l before w g) (arrive rules (not (tooShort before)) (s .right .line) s)) (sym e)
+    at-line l e = subst
+        (λ (l : Packets). (g : GivenFront l (w .left) before) → BothFollow (arrived l before w g) (arrive rules (not (tooShort before)) (s .right .line) s))
+        (sym e)
         (front-follows f before (s .right .line) (f .right .sound))
 step-follows (loss n) {w} {s} f g =
     subst (λ (q : Option Octets). BothFollow (lostAt n q w) (loseAt n (getElem? (s .left .line) n) s))
