@@ -10,8 +10,8 @@ use Rattle.dlc.specs.declared.Outcome.{Outcome}
 use Rattle.dlc.specs.Answers.{done, otherNumber, queueFull, shortReply}
 use Rattle.dlc.specs.Limits.{dataPacket, dackPacket, resetPacket}
 use Rattle.window.specs.Sides.{left, right}
-use Rattle.dlc_pair.specs.World.{Octets, Packets, isData, isDack, count, packetsIn, End, World, dataSent, freshEnd, initial}
-use Rattle.dlc_pair.specs.History.{payload, timer, arrival, Event, History, called, relined, acceptedBy, deliveredBy, lostBy, lostAt, Drained, TimerWaits}
+use Rattle.dlc_pair.specs.World.{Octets, isData, isDack, count, packetsIn, World, freshEnd, initial}
+use Rattle.dlc_pair.specs.History.{timer, Event, History, called, relined, acceptedBy, deliveredBy, lostBy, lostAt, Drained, TimerWaits}
 
 -- ---- packets
 -- 4x is DATA whatever x is, 5x is DACK, RESET is neither

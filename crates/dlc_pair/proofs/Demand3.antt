@@ -5,13 +5,12 @@
 -- By itself the claim also holds of some wrong links: one that always answers 24 and sends nothing, one that answers 0 to a DACK of
 -- distance 0, one that removes all at a distance above the queue. They are ruled out by the contracts, which are equations with the step
 -- table, and the histories here are of calls that meet the contracts.
-use Prim.Native.Nat.{ℕ, _+_, _*_, _≤_}
+use Prim.Native.Nat.{_+_}
 use native.Mathlib.Omega.{arith}
 use mathlib.Core.Path.{_≡_, sym, ap, _∙_}
-use mathlib.Core.List.{List, _++_, map, IsPrefix}
+use mathlib.Core.List.{List, _++_, map}
 use lib.ListN.{length}
 use Rattle.dlc.specs.declared.Link.{Link}
-use Rattle.dlc.specs.Limits.{slots}
 use Rattle.dlc.specs.Model.{view, opened}
 use Rattle.window.specs.Sides.{left, right}
 use Rattle.window.specs.Ends.{End as Peer}

@@ -2,18 +2,17 @@
 -- Assumes nothing.
 --
 -- Each effect is a nest of choices over Bools, so that a proof goes by cases on the Bools and never opens a contract.
-use Prim.Native.Nat.{ℕ, zero, suc, _+_, _%_, _≤_, _<_}
+use Prim.Native.Nat.{ℕ, zero, suc, _+_, _≤_, _<_}
 use native.Mathlib.Omega.{arith}
 use native.Mathlib.Nat.{add-zero}
 use mathlib.Core.Path.{_≡_, refl, sym, ap, _∙_}
 use mathlib.Core.Bool.{Bool, true, false, cond, not, _&&_}
 use mathlib.Core.Logic.{_≢_}
-use mathlib.Core.List.{List, [], _∷_, _++_, append-nil}
+use mathlib.Core.List.{[], _∷_, _++_, append-nil}
 use lib.ListN.{length, length-append, length-drop}
 use lib.Dec.{leb, ltb, eqb, leb·suc-zero}
 use borrow.Author.Tests.{lt-ltb, le-ltb, leb-true, leb-false}
 use Rattle.dlc_packet.proofs.Numbers.{distance-dackNumber}
-use Rattle.dlc_packet.specs.declared.Kind.{Kind}
 use Rattle.dlc.specs.Limits.{modulus, slots, maxPayload, replySize, dackNumber, distance, dackPacket, dataPackets}
 use Rattle.dlc.specs.Answers.{done, tooLong, notOpen, queueFull, noEntry, otherNumber, shortReply, illFormed}
 use Rattle.dlc.specs.Model.{Model}
@@ -22,7 +21,7 @@ use Rattle.window.specs.Packets.{dataPdu, dackPdu}
 use Rattle.window.specs.Ends.{Rules, Lawful, End as Peer, Sender, Receiver, freed, lostOne, acknowledges, withSender, accept, sendAll, answering, takeData}
 use Rattle.window.proofs.InFlight.{all-++}
 use Rattle.dlc_pair.specs.World.{Octets, Packets}
-use Rattle.dlc_pair.proofs.Codec.{encode, Sound, Short, short-drop, kindOf-data, kindOf-dack}
+use Rattle.dlc_pair.proofs.Codec.{encode, Sound, short-drop, kindOf-data, kindOf-dack}
 use Rattle.dlc_pair.proofs.Relation.{modelOf, Fits, Becomes}
 
 -- ---- this link as an instance of the sliding window: its slots, its DACK numbers, nothing sent at once

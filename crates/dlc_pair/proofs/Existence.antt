@@ -5,7 +5,7 @@ use native.Mathlib.Omega.{arith}
 use mathlib.Core.Path.{_≡_, refl, sym, ap, subst, _∙_}
 use mathlib.Core.Bool.{Bool, true, false, _&&_, false≢true}
 use mathlib.Core.List.{List, [], _∷_, _++_, map, flatten}
-use lib.ListN.{length, take, replicate, length-map, length-append, length-replicate}
+use lib.ListN.{length, replicate, length-map, length-append, length-replicate}
 use lib.Seq.{take-append-seam, take-at}
 use lib.Dec.{leb, ltb, eqb}
 use borrow.Author.Tests.{lt-ltb, le-leb, ltb-false, leb-false}
@@ -14,12 +14,12 @@ use Rattle.dlc_queue.specs.declared.Payload.{Payload}
 use Rattle.dlc_queue.specs.declared.Queue.{Queue}
 use Rattle.dlc_queue.specs.Queue.{octetsOf, used, allShort, formed}
 use Rattle.dlc.specs.declared.Link.{Link}
-use Rattle.dlc.specs.Limits.{modulus, slots, maxPayload, replySize, distance}
+use Rattle.dlc.specs.Limits.{modulus, slots, maxPayload, distance}
 use Rattle.dlc.specs.Answers.{tooLong, queueFull, noEntry, shortReply, refuses}
 use Rattle.dlc.specs.Model.{Model, view, wellFormed, stateFits, opened}
 use Rattle.dlc.specs.Events.{Effect, refuse, stateOf, startOf, timerOf, payloadOf, arrivalOf}
 use Rattle.dlc.specs.Calls.{answerOf, Meets}
-use Rattle.window.specs.Sides.{Side, left, right, Both, mirror}
+use Rattle.window.specs.Sides.{Side, left, right, Both}
 use Rattle.window.specs.Packets.{Packet, dataPdu, dackPdu}
 use Rattle.window.specs.Ends.{End as Peer, freed, acknowledges, withSender, accept, takeData}
 use Rattle.window.specs.Events.{fresh}
@@ -27,7 +27,7 @@ use Rattle.window.proofs.InFlight.{All, all-++}
 use Rattle.dlc_pair.specs.World.{Octets, Packets, World, initial}
 use Rattle.dlc_pair.specs.History.{Act, payload, timer, start, arrival, loss, Event, Reply, GivenFront, Given, GivenAt, History, final}
 use Rattle.dlc_pair.proofs.Codec.{encode, Sound, Short}
-use Rattle.dlc_pair.proofs.Relation.{modelOf, Fits, Follows, BothFollow, follow-mirror}
+use Rattle.dlc_pair.proofs.Relation.{modelOf, Fits, BothFollow, follow-mirror}
 use Rattle.dlc_pair.proofs.Effects.{rules, fits-accept, fits-takeData, fits-freed, startEffect, startOf-open, payloadEffect, payloadOf-open, withPayload-accept, timerEffect, timerOf-open, dataEffect, arrivalOf-data, dackEffect, arrivalOf-dack}
 use Rattle.dlc_pair.proofs.Steps.{tooShort}
 use Rattle.dlc_pair.proofs.Runs.{stepAt-follows, run-follows, follow-initial}

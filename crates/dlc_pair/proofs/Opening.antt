@@ -1,13 +1,13 @@
 -- Opening: from a fresh link and any well-formed one (a fresh one too), start, timer and the arrivals of RESET and RESET_ACK lead to the world
 -- that demand 3 starts from, and demand 3 holds from there on. The theorems stand last. Assumes nothing.
-use Prim.Native.Nat.{ℕ, _+_, _≤_, _<_}
+use Prim.Native.Nat.{ℕ, _+_, _≤_}
 use native.Mathlib.Omega.{arith}
 use mathlib.Core.Path.{_≡_, refl, sym, ap, subst, _∙_}
 use mathlib.Core.Logic.{_≢_}
-use mathlib.Core.Bool.{Bool, true, false, cond, _&&_}
+use mathlib.Core.Bool.{true, false, cond, _&&_}
 use mathlib.Core.List.{List, [], _∷_, _++_}
 use lib.ListN.{length}
-use lib.Dec.{ltb, eqb}
+use lib.Dec.{eqb}
 use borrow.Author.Tests.{le-ltb}
 use Rattle.dlc.specs.declared.State.{State}
 use Rattle.dlc.specs.declared.State.the-variants.{Idle, Reset, Data}
@@ -21,14 +21,14 @@ use Rattle.dlc.specs.Events.{Effect, effect, cleared, startOf, timerOf, arrival
 use Rattle.dlc.specs.Calls.{Meets, StartCall, TimerCall, deliveredPart}
 use Rattle.dlc_queue.specs.Queue.{formed}
 use Rattle.window.specs.Sides.{left, right}
-use Rattle.window.specs.Events.{fresh as freshPeer, start as packetStart}
+use Rattle.window.specs.Events.{fresh as freshPeer}
 use Rattle.dlc_pair.specs.World.{Octets, Packets, isData, isDack, one, count, End, World, freshEnd, initial}
 use Rattle.dlc_pair.specs.History.{arrival, Event, Reply, GivenFront, Given, GivenAt, afterAt, History, final, copiedBy, called, relined, arrived, after}
 use Rattle.dlc_pair.specs.Demand3.{Demand3}
 use Rattle.dlc_pair.specs.Opening.{openingEvents, Stands}
 use Rattle.dlc_pair.specs.Progress.{Enough}
 use Rattle.dlc_pair.proofs.Codec.{count-++}
-use Rattle.dlc_pair.proofs.Relation.{copiedBy-packets, never-snoc, Follows, BothFollow}
+use Rattle.dlc_pair.proofs.Relation.{copiedBy-packets, never-snoc, Follows}
 use Rattle.dlc_pair.proofs.Demand3.{demand-three-from}
 use Rattle.dlc_pair.proofs.Existence.{queueOf, moves, reply}
 

@@ -1,10 +1,9 @@
 -- Progress, from every world that a history reaches. The theorem stands last. Assumes nothing.
-use Prim.Native.Nat.{ℕ, _≤_}
+use Prim.Native.Nat.{_≤_}
 use mathlib.Core.Path.{_≡_, refl, sym, ap, subst, _∙_}
-use mathlib.Core.Bool.{Bool, true, false, not}
+use mathlib.Core.Bool.{Bool, true, not}
 use mathlib.Core.List.{List, [], _∷_, _++_, map, map-append}
 use lib.ListN.{length, replicate}
-use lib.Dec.{ltb}
 use borrow.Author.Tests.{le-ltb}
 use Rattle.dlc.specs.declared.Link.{Link}
 use Rattle.dlc.specs.Limits.{replySize}
@@ -15,8 +14,8 @@ use Rattle.window.specs.Ends.{End as Peer}
 use Rattle.window.specs.Events.{timeout, receive, Event as PacketEvent, start as packetStart, run}
 use Rattle.window.specs.Claim.{exchange as packetExchange, Settled as PacketSettled}
 use Rattle.window.proofs.Progress.{progress as packets-progress}
-use Rattle.dlc_pair.specs.World.{Octets, Packets, End, World, initial}
-use Rattle.dlc_pair.specs.History.{arrival, Event, History, final}
+use Rattle.dlc_pair.specs.World.{Octets, End, World, initial}
+use Rattle.dlc_pair.specs.History.{Event, History, final}
 use Rattle.dlc_pair.specs.Progress.{Enough, AllEnough, arrivals, exchange, Settled}
 use Rattle.dlc_pair.proofs.Codec.{encode}
 use Rattle.dlc_pair.proofs.Relation.{Follows, BothFollow}

@@ -1,10 +1,9 @@
 -- A world of octets and link values against the packet system: what it means that one follows the other, and a call at one end. Assumes nothing.
-use Prim.Native.Nat.{ℕ, suc, _+_, _≤_, _<_}
-use native.Mathlib.Omega.{arith}
+use Prim.Native.Nat.{ℕ, _+_, _≤_, _<_}
 use native.Mathlib.Nat.{add-zero}
-use mathlib.Core.Path.{_≡_, refl, sym, ap, subst, _∙_}
+use mathlib.Core.Path.{_≡_, sym, ap, subst, _∙_}
 use mathlib.Core.Logic.{_≢_}
-use mathlib.Core.Bool.{Bool, true, false}
+use mathlib.Core.Bool.{true}
 use mathlib.Core.List.{List, [], _∷_, _++_, map, map-append, append-nil}
 use lib.ListN.{length}
 use Rattle.dlc.specs.declared.Link.{Link}
@@ -17,7 +16,7 @@ use Rattle.dlc.specs.Events.{Effect, refuse, stateOf}
 use Rattle.dlc.specs.Calls.{Meets}
 use Rattle.window.specs.Sides.{Both, mirror}
 use Rattle.window.specs.Packets.{Packet, countData}
-use Rattle.window.specs.Ends.{End as Peer, Sender, withLine, withSender}
+use Rattle.window.specs.Ends.{End as Peer, Sender}
 use Rattle.window.proofs.InFlight.{All, all-++}
 use Rattle.dlc_pair.specs.World.{Octets, Packets, isData, count, End, World}
 use Rattle.dlc_pair.specs.History.{copiedBy, called, relined}

@@ -1,16 +1,15 @@
 -- Lists of events: every history of a list is followed by one run of the packet system, which the list alone decides. Assumes nothing.
-use Prim.Native.Nat.{ℕ}
 use native.Mathlib.Omega.{arith}
 use mathlib.Core.Path.{_≡_, refl, sym, ap, _∙_}
 use mathlib.Core.List.{List, [], _∷_, map}
 use Rattle.dlc.specs.declared.Link.{Link}
 use Rattle.dlc.specs.Model.{view, opened}
-use Rattle.window.specs.Sides.{Side, left, right, Both, mirror}
+use Rattle.window.specs.Sides.{Side, left, right, Both}
 use Rattle.window.specs.Packets.{countData, countDack}
 use Rattle.window.specs.Ends.{End as Peer}
-use Rattle.window.specs.Events.{Event as PacketEvent, fresh, start as packetStart, stepAt, run, Drained as PacketDrained, Waits as PacketWaits, WaitsAt as PacketWaitsAt, TimerWaits as PacketTimerWaits}
+use Rattle.window.specs.Events.{Event as PacketEvent, fresh, start as packetStart, stepAt, run, Waits as PacketWaits, WaitsAt as PacketWaitsAt, TimerWaits as PacketTimerWaits}
 use Rattle.dlc_pair.specs.World.{isData, isDack, count, freshEnd, World, initial}
-use Rattle.dlc_pair.specs.History.{Act, payload, timer, start, arrival, loss, Event, GivenAt, afterAt, History, final, Drained, Waits, WaitsAt, TimerWaits}
+use Rattle.dlc_pair.specs.History.{Act, payload, timer, start, arrival, loss, Event, GivenAt, afterAt, History, final, Waits, WaitsAt, TimerWaits}
 use Rattle.dlc_pair.proofs.Codec.{count-data, count-dack}
 use Rattle.dlc_pair.proofs.Relation.{Follows, BothFollow, follow-mirror}
 use Rattle.dlc_pair.proofs.Effects.{rules}

@@ -1,5 +1,5 @@
 -- Each event is followed by the packet system, whatever its call gives back under its contract. Assumes nothing.
-use Prim.Native.Nat.{ℕ, zero, suc, _+_, _%_, _≤_, _<_}
+use Prim.Native.Nat.{ℕ, zero, suc, _+_, _≤_, _<_}
 use native.Mathlib.Omega.{arith}
 use native.Mathlib.Nat.{add-zero}
 use mathlib.Core.Path.{_≡_, refl, sym, ap, subst, _∙_}
@@ -9,16 +9,16 @@ use mathlib.Core.Option.{Option, none, some, Option·map, Option·none-ne-some, 
 use mathlib.Core.List.{List, [], _∷_, _++_, map, append-nil}
 use lib.ListN.{length, getElem?}
 use lib.Dec.{leb, ltb, eqb}
-use borrow.Author.Tests.{ltb-true, ltb-false, leb-false}
+use borrow.Author.Tests.{ltb-false, leb-false}
 use Rattle.dlc.specs.declared.Answer.{Answer}
 use Rattle.dlc.specs.declared.Outcome.{Outcome}
-use Rattle.dlc.specs.Limits.{modulus, slots, maxPayload, replySize, dackNumber, distance, advance}
+use Rattle.dlc.specs.Limits.{modulus, slots, maxPayload, replySize, distance}
 use Rattle.dlc.specs.Answers.{done, tooLong, queueFull, noEntry, shortReply, illFormed}
 use Rattle.dlc.specs.Model.{Model, view}
 use Rattle.dlc.specs.Events.{Effect, refuse, startOf, timerOf, payloadOf, arrivalOf}
 use Rattle.dlc.specs.Calls.{answerOf, Meets, deliveredPart}
 use Rattle.window.specs.Sides.{Both, eraseAt}
-use Rattle.window.specs.Packets.{Packet, dataPdu, dackPdu, numbered}
+use Rattle.window.specs.Packets.{Packet, dataPdu, dackPdu}
 use Rattle.window.specs.Ends.{End as Peer, delivering, freed, lostOne, acknowledges, withLine, withSender, accept, sendAll, takeData}
 use Rattle.window.specs.Events.{Act as PacketAct, offer, timeout, receive, lose, loseAt, arrive, step}
 use Rattle.window.proofs.InFlight.{All, all-eraseAt, map-eraseAt}
@@ -26,7 +26,7 @@ use Rattle.window.proofs.Marks.{get-map}
 use Rattle.dlc_pair.specs.World.{Octets, Packets, isData, isDack, one, World}
 use Rattle.dlc_pair.specs.History.{Act, payload, timer, start, arrival, loss, GivenFront, Given, called, relined, acceptedBy, deliveredBy, lostBy, arrived, lostAt, after}
 use Rattle.dlc_pair.proofs.Codec.{encode, Sound, dataBit, dackBit, isData-encode, isDack-encode, dataPackets-numbered, sound-numbered}
-use Rattle.dlc_pair.proofs.Relation.{modelOf, Fits, Follows, BothFollow, Becomes, follows-called, becomes-same, losing, follows-relined}
+use Rattle.dlc_pair.proofs.Relation.{modelOf, BothFollow, Becomes, follows-called, becomes-same, losing, follows-relined}
 use Rattle.dlc_pair.proofs.Effects.{rules, fits-accept, fits-sendAll, fits-takeData, fits-lostOne, fits-freed, becomes-sender, becomes-answer, startEffect, startOf-open, payloadEffect, payloadOf-open, ltb-not-leb, withPayload-accept, timerEffect, timerOf-open, dataEffect, arrivalOf-data, dackEffect, arrivalOf-dack}
 
 -- a reply buffer that every call refuses

@@ -11,7 +11,7 @@ use Rattle.window.specs.Sides.{Side, left, right}
 use Rattle.window.specs.Events.{start as packetStart}
 use Rattle.window.proofs.Deciding.{timerWaits-true}
 use Rattle.dlc_pair.specs.World.{Octets, Packets, dataSent, initial}
-use Rattle.dlc_pair.specs.History.{Act, payload, timer, start, arrival, loss, Event, after, History, final, TimerWaits}
+use Rattle.dlc_pair.specs.History.{Act, payload, timer, arrival, loss, Event, after, History, final, TimerWaits}
 use Rattle.dlc_pair.proofs.Relation.{BothFollow}
 use Rattle.dlc_pair.proofs.Effects.{rules}
 use Rattle.dlc_pair.proofs.Runs.{eventOf, runOf, run-follows, timerWaits-back, follow-initial}

@@ -1,5 +1,4 @@
 -- Opening a link: the events that lead two links to the world that demand 3 starts from. Proved in proofs/Opening. Assumes nothing.
-use Prim.Native.Nat.{ℕ}
 use mathlib.Core.Path.{_≡_}
 use mathlib.Core.List.{List, [], _∷_}
 use Rattle.window.specs.Sides.{left, right}

@@ -1,5 +1,5 @@
 -- Progress: what is queued is delivered, once nothing is lost any more. Proved in proofs/Progress. Assumes nothing.
-use Prim.Native.Nat.{ℕ, _≤_}
+use Prim.Native.Nat.{_≤_}
 use mathlib.Core.Path.{_≡_}
 use mathlib.Core.List.{List, [], _∷_, _++_, map}
 use lib.ListN.{length}

@@ -1,16 +1,15 @@
 -- The definitions of specs/ on small cases, by computation: what a reader may check them against. Assumes nothing.
 use Prim.Native.Nat.{ℕ}
 use mathlib.Core.Path.{_≡_, refl}
-use mathlib.Core.Bool.{Bool, true, false}
-use mathlib.Core.List.{List, [], _∷_}
+use mathlib.Core.Bool.{true, false}
+use mathlib.Core.List.{[], _∷_}
 use mathlib.Core.Option.{some}
-use lib.ListN.{length}
 use native.Mathlib.Omega.{arith}
 use Rattle.dlc_packet.specs.Numbers.{dackNumber, distance}
 use Rattle.window.specs.Sides.{left, right, Both, eraseAt}
-use Rattle.window.specs.Packets.{Packet, dataPdu, dackPdu, numbered}
+use Rattle.window.specs.Packets.{dataPdu, dackPdu, numbered}
 use Rattle.window.specs.Ends.{Rules, Sender, End, applyDack}
-use Rattle.window.specs.Events.{offer, timeout, receive, lose, Event, fresh, start, loseAt, step, run, Drained}
+use Rattle.window.specs.Events.{offer, timeout, receive, start, loseAt, run, Drained}
 use Rattle.window.specs.Claim.{exchange}
 
 abbrev rules : Rules

@@ -4,12 +4,12 @@
 -- sent so far; or something was (Dirty), and then a window of DATA is already paid for by the lost packet.
 --
 --   reached     payloads sent at least once
-use Prim.Native.Nat.{ℕ, zero, suc, _+_, _*_, _≤_, _<_}
-use mathlib.Core.Path.{_≡_, refl}
+use Prim.Native.Nat.{ℕ, suc, _+_, _*_, _≤_}
+use mathlib.Core.Path.{_≡_}
 use mathlib.Core.Logic.{_⊎_, inl, inr, _≢_}
 use mathlib.Core.List.{List, [], _∷_, _++_}
 use native.Mathlib.Omega.{arith}
-use lib.ListN.{length, length-append}
+use lib.ListN.{length}
 use Rattle.window.specs.Packets.{Payload, Payloads}
 use Rattle.window.proofs.Rising.{Chain, chain-raise, chain-snoc, lastOr, lastOr-snoc}
 use Rattle.window.proofs.InFlight.{InFlight, sentNext, indices, indices-++, batch, batch-chain}

@@ -1,6 +1,5 @@
 -- The timer's premise decided by computation, for worked runs. Assumes nothing.
-use Prim.Native.Nat.{ℕ}
-use mathlib.Core.Bool.{Bool, true, false, _&&_}
+use mathlib.Core.Bool.{Bool, true, _&&_}
 use mathlib.Core.List.{List, [], _∷_}
 use lib.Dec.{T, eqb, eqb→eq}
 use Rattle.common.proofs.Bools.{and-left, and-right}

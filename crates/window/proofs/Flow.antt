@@ -4,9 +4,9 @@
 -- What the proof knows beside the state stands as a parameter: `acked` are the payloads that left the queue, `reached` is how many were sent
 -- at least once. What holds only on a condition stands under it: the count where the sender's timer has waited, the trail where since the
 -- queue was last sent with the line drained no packet of this direction was lost and no payload queued that is not sent.
-use Prim.Native.Nat.{ℕ, zero, suc, _+_, _-_, _*_, _%_, _≤_, _<_, min}
+use Prim.Native.Nat.{ℕ, suc, _+_, _-_, _*_, _%_, _≤_, _<_}
 use mathlib.Core.Path.{_≡_, refl, sym, ap, subst, _∙_}
-use mathlib.Core.Logic.{_⊎_, inl, inr, _≢_}
+use mathlib.Core.Logic.{inl, inr, _≢_}
 use mathlib.Core.Bool.{Bool, true, false, not}
 use mathlib.Core.Option.{some}
 use mathlib.Core.List.{List, [], _∷_, _++_, append-assoc}

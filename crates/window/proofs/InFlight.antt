@@ -1,11 +1,11 @@
 -- DATA in flight, with what the invariant knows of it beside the four bits that are on the line. Assumes nothing.
-use Prim.Native.Nat.{ℕ, zero, suc, _+_, _≤_, _<_}
+use Prim.Native.Nat.{ℕ, zero, suc, _+_}
 use mathlib.Core.Path.{_≡_, refl, ap}
-use mathlib.Core.Option.{none, some, Option·none-ne-some, Option·some-injective}
-use mathlib.Core.List.{List, [], _∷_, _++_, map, map-append, IsPrefix, append-assoc}
+use mathlib.Core.Option.{some, Option·none-ne-some, Option·some-injective}
+use mathlib.Core.List.{List, [], _∷_, _++_, map, map-append, IsPrefix}
 use native.Mathlib.Omega.{arith}
 use native.Mathlib.Nat.{add-suc, suc-add}
-use lib.ListN.{length, length-append, getElem?}
+use lib.ListN.{length, getElem?}
 use Rattle.window.specs.Sides.{eraseAt}
 use Rattle.window.specs.Packets.{Payload, Payloads}
 use Rattle.window.proofs.Rising.{Rising, Chain}

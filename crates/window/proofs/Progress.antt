@@ -3,24 +3,24 @@
 --
 -- The invariant's trail does the work: it begins when all is sent on a drained line, arrivals keep it, and where nothing is left on the line
 -- it says that all is acknowledged.
-use Prim.Native.Nat.{ℕ, zero, suc, _+_, _-_, _≤_, _<_}
-use mathlib.Core.Path.{_≡_, refl, sym, ap, subst, _∙_}
-use mathlib.Core.Bool.{Bool, true, false, cond}
-use mathlib.Core.List.{List, [], _∷_, _++_, append-nil, map}
+use Prim.Native.Nat.{ℕ, zero, suc, _+_, _-_, _≤_}
+use mathlib.Core.Path.{_≡_, refl, sym, ap, _∙_}
+use mathlib.Core.Bool.{true}
+use mathlib.Core.List.{List, [], _∷_, _++_, append-nil}
 use native.Mathlib.Omega.{arith}
-use lib.Dec.{ltb, eqb}
-use lib.ListN.{length, length-append, replicate, length-map}
+use lib.Dec.{ltb}
+use lib.ListN.{length, length-append, replicate}
 use borrow.Author.Tests.{ltb-false}
 use Rattle.common.proofs.Bools.{either}
-use Rattle.window.specs.Sides.{Side, left, right, opposite, Both, mirror, endAt}
+use Rattle.window.specs.Sides.{Side, left, right, Both, mirror, endAt}
 use Rattle.window.specs.Packets.{Payloads, Packet, dataPdu, dackPdu, countData, countDack, numbered, advance}
-use Rattle.window.specs.Ends.{Rules, Lawful, Sender, End, freed, acknowledges, applyDack, sendAll}
+use Rattle.window.specs.Ends.{Rules, Lawful, Sender, End, acknowledges}
 use Rattle.window.specs.Events.{timeout, receive, Event, start, arrive, step, run, Drained}
 use Rattle.window.specs.Claim.{exchange, Settled}
 use Rattle.window.proofs.Rising.{rising-le}
-use Rattle.window.proofs.Count.{Trail, trail-end}
+use Rattle.window.proofs.Count.{trail-end}
 use Rattle.window.proofs.Marks.{dacksOf}
-use Rattle.window.proofs.Flow.{Assumed, Flow, flow-length}
+use Rattle.window.proofs.Flow.{Assumed, flow-length}
 use Rattle.window.proofs.Invariant.{Invariant, invariant-mirror, invariant-weaken, invariant-send-all, invariant-idle, drained-marks}
 use Rattle.window.proofs.Receive.{invariant-arrive}
 use Rattle.window.proofs.SlidingWindow.{invariant-run, invariant-start}

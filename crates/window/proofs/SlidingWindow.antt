@@ -1,18 +1,17 @@
 -- The sliding window: for every lawful rules and every list of events. The theorem stands last. Assumes nothing.
-use Prim.Native.Nat.{ℕ, _<_}
 use mathlib.Core.Path.{_≡_, refl}
 use mathlib.Core.Logic.{inl}
 use mathlib.Core.Bool.{Bool, true, false, _&&_}
 use mathlib.Core.List.{List, [], _∷_}
 use native.Mathlib.Omega.{arith}
-use lib.Dec.{T, ltb}
+use lib.Dec.{ltb}
 use lib.ListN.{length}
 use borrow.Author.Tests.{ltb-true}
 use Rattle.common.proofs.Bools.{either}
 use Rattle.window.specs.Sides.{Side, left, right, Both, mirror}
-use Rattle.window.specs.Ends.{Rules, Lawful, Sender, Receiver, End}
+use Rattle.window.specs.Ends.{Rules, Lawful, End}
 use Rattle.window.specs.Events.{Act, offer, timeout, receive, lose, Event, fresh, start, arrive, step, stepAt, run, Waits, WaitsAt, TimerWaits, Drained}
-use Rattle.window.specs.Claim.{OneWay, SlidingWindow}
+use Rattle.window.specs.Claim.{SlidingWindow}
 use Rattle.window.proofs.Flow.{assumed, Flow, flow-bound}
 use Rattle.window.proofs.Invariant.{Ghost, Invariant, invariant-mirror, invariant-weaken, invariant-accept, invariant-send-all, invariant-lose}
 use Rattle.window.proofs.Receive.{invariant-arrive, invariant-refuse}

@@ -9,8 +9,8 @@
 --
 -- The limit is what keeps old repeats apart from new DATA: it lies above the index and at most W above it, and limits rise along the line.
 -- So an index in flight is less than W from the one expected on either side, and the residue alone tells whether it is the same.
-use Prim.Native.Nat.{ℕ, zero, suc, _+_, _%_, _≤_, _<_}
-use mathlib.Core.Path.{_≡_, refl, sym, subst}
+use Prim.Native.Nat.{ℕ, suc, _+_, _%_, _≤_, _<_}
+use mathlib.Core.Path.{_≡_, subst}
 use mathlib.Core.Option.{some}
 use mathlib.Core.List.{List, [], _∷_, _++_, append-assoc}
 use native.Mathlib.Omega.{arith}
