@@ -20,8 +20,9 @@ use Rattle.window.proofs.SlidingWindow.{sliding-window}
 use Rattle.dlc_pair.specs.World.{Packets, End, World, initial}
 use Rattle.dlc_pair.specs.History.{Event, History}
 use Rattle.dlc_pair.specs.Demand3.{OneWay, Demand3}
+use Rattle.dlc_pair.specs.Rules.{rules}
 use Rattle.dlc_pair.proofs.Relation.{Follows, BothFollow}
-use Rattle.dlc_pair.proofs.Effects.{rules, lawful}
+use Rattle.dlc_pair.proofs.Effects.{lawful}
 use Rattle.dlc_pair.proofs.Runs.{eventOf, run-follows, timerWaits-follow, follow-initial}
 
 -- what the packet system's ends give, read off at the ends that follow them

@@ -13,21 +13,19 @@ use lib.ListN.{length, length-append, length-drop}
 use lib.Dec.{leb, ltb, eqb, leb·suc-zero}
 use borrow.Author.Tests.{lt-ltb, le-ltb, leb-true, leb-false}
 use Rattle.dlc_packet.proofs.Numbers.{distance-dackNumber}
-use Rattle.dlc.specs.Limits.{modulus, slots, maxPayload, replySize, dackNumber, distance, dackPacket, dataPackets}
+use Rattle.dlc.specs.Limits.{modulus, advance, slots, maxPayload, replySize, dackNumber, distance, dackPacket, dataPackets}
 use Rattle.dlc.specs.Answers.{done, tooLong, notOpen, queueFull, noEntry, otherNumber, shortReply, illFormed}
 use Rattle.dlc.specs.Model.{Model}
 use Rattle.dlc.specs.Events.{Effect, effect, refuse, expectNext, dackOf, judged, dataStep, stateOf, without, dackStep, timerStep, startStep, withPayload, queued, isOpen, packetStep, startOf, timerOf, payloadOf, arrivalOf}
 use Rattle.window.specs.Packets.{dataPdu, dackPdu}
-use Rattle.window.specs.Ends.{Rules, Lawful, End as Peer, Sender, Receiver, freed, lostOne, acknowledges, withSender, accept, sendAll, answering, takeData}
-use Rattle.window.proofs.InFlight.{all-++}
+use Rattle.window.specs.Ends.{Lawful, End as Peer, Sender, Receiver, freed, lostOne, acknowledges, withSender, firstSent, accept, sendAll, answering, takeData}
+use Rattle.window.proofs.InFlight.{All, all-++}
 use Rattle.dlc_pair.specs.World.{Octets, Packets}
+use Rattle.dlc_pair.specs.Rules.{rules}
 use Rattle.dlc_pair.proofs.Codec.{encode, Sound, short-drop, kindOf-data, kindOf-dack}
 use Rattle.dlc_pair.proofs.Relation.{modelOf, Fits, Becomes}
 
--- ---- this link as an instance of the sliding window: its slots, its DACK numbers, nothing sent at once
-abbrev pub rules : Rules
-rules = record { window = slots; atOnce = false; dackNumber = dackNumber; distance = distance }
-
+-- the rules of the sliding window are kept: seven is below sixteen, and a DACK's distance is what it acknowledges
 pub lawful : Lawful rules
 lawful = record { below = omega arith; distance = distance-dackNumber }
 
@@ -96,7 +94,7 @@ becomes-answer {a = a} y model packets code delivers fits = record {
   sent = sym (add-zero (a .sender .sent));
   loses = sym (add-zero (a .sender .lost));
   fits = fits;
-  sound = (fits .expected, tt);
+  sound = (omega (arith, fits .expected), tt);
 }
 
 -- ---- start: 26 or 24
@@ -142,6 +140,27 @@ state-snoc (x ∷ q) p = refl
 pub withPayload-accept : (a : Peer) (p : Octets) → withPayload (modelOf a) p ≡ modelOf (accept rules p a)
 withPayload-accept a p =
     λ i. record { ok = true; state = state-snoc (a .sender .queue) p i; queue = a .sender .queue ++ (p ∷ []); base = a .sender .base; expected = a .receiver .expected }
+
+sound-first : (once : Bool) (x : ℕ) (p : Octets) → x < modulus → length p ≤ maxPayload → All Sound (firstSent once x p)
+sound-first true x p h k = ((h, k), tt)
+sound-first false x p h k = tt
+
+-- the payload is queued; what is sent at once is what the rules say
+pub becomes-accept : (a : Peer) (p : Octets) {up : Packets} → Fits a → length (a .sender .queue) < slots → length p ≤ maxPayload
+    → a .sender .accepted ++ (p ∷ []) ≡ a .sender .accepted ++ up
+    → Becomes (queued (modelOf a) p) a (accept rules p a) (firstSent (rules .atOnce) (advance (a .sender .base) (length (a .sender .queue))) p) up [] 0
+becomes-accept a p f h k accepts = record {
+  model = withPayload-accept a p;
+  packets = refl;
+  code = λ e. omega (arith, e);
+  line = refl;
+  accepts = accepts;
+  delivers = sym (append-nil (a .receiver .delivered));
+  sent = refl;
+  loses = sym (add-zero (a .sender .lost));
+  fits = fits-accept a f p h k;
+  sound = sound-first (rules .atOnce) (advance (a .sender .base) (length (a .sender .queue))) p (omega arith) k;
+}
 
 -- ---- timer: 26, 24 or all sent
 abbrev pub timerEffect : Bool → Bool → Model → Effect

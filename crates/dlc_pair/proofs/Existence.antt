@@ -26,9 +26,10 @@ use Rattle.window.specs.Events.{fresh}
 use Rattle.window.proofs.InFlight.{All, all-++}
 use Rattle.dlc_pair.specs.World.{Octets, Packets, World, initial}
 use Rattle.dlc_pair.specs.History.{Act, payload, timer, start, arrival, loss, Event, Reply, GivenFront, Given, GivenAt, History, final}
+use Rattle.dlc_pair.specs.Rules.{rules}
 use Rattle.dlc_pair.proofs.Codec.{encode, Sound, Short}
 use Rattle.dlc_pair.proofs.Relation.{modelOf, Fits, BothFollow, follow-mirror}
-use Rattle.dlc_pair.proofs.Effects.{rules, fits-accept, fits-takeData, fits-freed, startEffect, startOf-open, payloadEffect, payloadOf-open, withPayload-accept, timerEffect, timerOf-open, dataEffect, arrivalOf-data, dackEffect, arrivalOf-dack}
+use Rattle.dlc_pair.proofs.Effects.{fits-accept, fits-takeData, fits-freed, startEffect, startOf-open, payloadEffect, payloadOf-open, withPayload-accept, timerEffect, timerOf-open, dataEffect, arrivalOf-data, dackEffect, arrivalOf-dack}
 use Rattle.dlc_pair.proofs.Steps.{tooShort}
 use Rattle.dlc_pair.proofs.Runs.{stepAt-follows, run-follows, follow-initial}
 

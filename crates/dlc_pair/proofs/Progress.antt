@@ -17,9 +17,10 @@ use Rattle.window.proofs.Progress.{progress as packets-progress}
 use Rattle.dlc_pair.specs.World.{Octets, End, World, initial}
 use Rattle.dlc_pair.specs.History.{Event, History, final}
 use Rattle.dlc_pair.specs.Progress.{Enough, AllEnough, arrivals, exchange, Settled}
+use Rattle.dlc_pair.specs.Rules.{rules}
 use Rattle.dlc_pair.proofs.Codec.{encode}
 use Rattle.dlc_pair.proofs.Relation.{Follows, BothFollow}
-use Rattle.dlc_pair.proofs.Effects.{rules, lawful}
+use Rattle.dlc_pair.proofs.Effects.{lawful}
 use Rattle.dlc_pair.proofs.Steps.{tooShort}
 use Rattle.dlc_pair.proofs.Runs.{eventOf, runOf, run-follows, follow-initial}
 

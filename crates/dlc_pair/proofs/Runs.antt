@@ -10,9 +10,9 @@ use Rattle.window.specs.Ends.{End as Peer}
 use Rattle.window.specs.Events.{Event as PacketEvent, fresh, start as packetStart, stepAt, run, Waits as PacketWaits, WaitsAt as PacketWaitsAt, TimerWaits as PacketTimerWaits}
 use Rattle.dlc_pair.specs.World.{isData, isDack, count, freshEnd, World, initial}
 use Rattle.dlc_pair.specs.History.{Act, payload, timer, start, arrival, loss, Event, GivenAt, afterAt, History, final, Waits, WaitsAt, TimerWaits}
+use Rattle.dlc_pair.specs.Rules.{rules}
 use Rattle.dlc_pair.proofs.Codec.{count-data, count-dack}
 use Rattle.dlc_pair.proofs.Relation.{Follows, BothFollow, follow-mirror}
-use Rattle.dlc_pair.proofs.Effects.{rules}
 use Rattle.dlc_pair.proofs.Steps.{actOf, step-follows}
 
 abbrev pub eventOf : Event → PacketEvent

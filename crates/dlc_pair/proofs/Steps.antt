@@ -25,9 +25,10 @@ use Rattle.window.proofs.InFlight.{All, all-eraseAt, map-eraseAt}
 use Rattle.window.proofs.Marks.{get-map}
 use Rattle.dlc_pair.specs.World.{Octets, Packets, isData, isDack, one, World}
 use Rattle.dlc_pair.specs.History.{Act, payload, timer, start, arrival, loss, GivenFront, Given, called, relined, acceptedBy, deliveredBy, lostBy, arrived, lostAt, after}
+use Rattle.dlc_pair.specs.Rules.{rules}
 use Rattle.dlc_pair.proofs.Codec.{encode, Sound, dataBit, dackBit, isData-encode, isDack-encode, dataPackets-numbered, sound-numbered}
 use Rattle.dlc_pair.proofs.Relation.{modelOf, BothFollow, Becomes, follows-called, becomes-same, losing, follows-relined}
-use Rattle.dlc_pair.proofs.Effects.{rules, fits-accept, fits-sendAll, fits-takeData, fits-lostOne, fits-freed, becomes-sender, becomes-answer, startEffect, startOf-open, payloadEffect, payloadOf-open, ltb-not-leb, withPayload-accept, timerEffect, timerOf-open, dataEffect, arrivalOf-data, dackEffect, arrivalOf-dack}
+use Rattle.dlc_pair.proofs.Effects.{fits-accept, fits-sendAll, fits-takeData, fits-lostOne, fits-freed, becomes-sender, becomes-answer, becomes-accept, startEffect, startOf-open, payloadEffect, payloadOf-open, ltb-not-leb, timerEffect, timerOf-open, dataEffect, arrivalOf-data, dackEffect, arrivalOf-dack}
 
 -- a reply buffer that every call refuses
 abbrev pub tooShort : Octets → Bool
@@ -75,18 +76,8 @@ module _ {w : World} {s : Both Peer} (f : BothFollow w s) {before later : Octets
   payload-follows p false true full hl hf m = refused tooLong m (λ e. omega (arith, e)) (ap (acceptedBy p) (m .returns .answer))
   payload-follows p false false true hl hf m = refused queueFull m (λ e. omega (arith, e)) (ap (acceptedBy p) (m .returns .answer))
   payload-follows p false false false hl hf m = record {
-    left = follows-called m (f .left) (record {
-      model = withPayload-accept (s .left) p;
-      packets = refl;
-      code = λ e. omega (arith, e);
-      line = refl;
-      accepts = ap (λ (t : Answer). s .left .sender .accepted ++ acceptedBy p t) (sym (m .returns .answer));
-      delivers = sym (append-nil (s .left .receiver .delivered));
-      sent = refl;
-      loses = sym (add-zero (s .left .sender .lost));
-      fits = fits-accept (s .left) (f .left .fits) p (hf refl) (hl refl);
-      sound = tt;
-    });
+    left = follows-called m (f .left) (becomes-accept (s .left) p (f .left .fits) (hf refl) (hl refl)
+        (ap (λ (t : Answer). s .left .sender .accepted ++ acceptedBy p t) (sym (m .returns .answer))));
     right = f .right;
   }
 

@@ -12,8 +12,8 @@ use Rattle.window.specs.Events.{start as packetStart}
 use Rattle.window.proofs.Deciding.{timerWaits-true}
 use Rattle.dlc_pair.specs.World.{Octets, Packets, dataSent, initial}
 use Rattle.dlc_pair.specs.History.{Act, payload, timer, arrival, loss, Event, after, History, final, TimerWaits}
+use Rattle.dlc_pair.specs.Rules.{rules}
 use Rattle.dlc_pair.proofs.Relation.{BothFollow}
-use Rattle.dlc_pair.proofs.Effects.{rules}
 use Rattle.dlc_pair.proofs.Runs.{eventOf, runOf, run-follows, timerWaits-back, follow-initial}
 
 -- ---- at an empty line an arrival and a loss change nothing

@@ -3,3 +3,4 @@ pub mod History
 pub mod Demand3
 pub mod Opening
 pub mod Progress
+pub mod Rules
