@@ -11,7 +11,7 @@ use mathlib.Core.Option.{Option, none, some}
 use mathlib.Core.List.{List, [], _∷_, _++_}
 use lib.ListN.{getElem?}
 use lib.Dec.{eqb}
-use Rattle.window.specs.Sides.{Side, left, right, mirror, eraseAt}
+use Rattle.window.specs.Sides.{Side, left, right, mirror, AskedAt, eraseAt}
 use Rattle.dlc.specs.declared.Answer.{Answer}
 use Rattle.dlc.specs.declared.Outcome.{Outcome}
 use Rattle.dlc.specs.Answers.{done, shortReply}
@@ -148,10 +148,7 @@ Waits (loss n) w = Unit {0}
 
 -- what an event at the second side has to meet for the timer of the first
 abbrev pub WaitsAt : Side → Side → Act → World → Type 0
-WaitsAt left left a w = Waits a w
-WaitsAt left right a w = Unit {0}
-WaitsAt right left a w = Unit {0}
-WaitsAt right right a w = Waits a (mirror w)
+WaitsAt = AskedAt Waits
 
 abbrev pub TimerWaits : Side → (es : List Event) (w : World) → History es w → Type 0
 TimerWaits d [] w h = Unit {0}

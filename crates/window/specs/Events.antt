@@ -6,7 +6,7 @@ use mathlib.Core.Option.{Option, none, some}
 use mathlib.Core.List.{List, [], _∷_}
 use lib.ListN.{length, getElem?}
 use lib.Dec.{ltb, eqb}
-use Rattle.window.specs.Sides.{Side, left, right, Both, mirror, eraseAt}
+use Rattle.window.specs.Sides.{Side, left, right, Both, mirror, AskedAt, eraseAt}
 use Rattle.window.specs.Packets.{Payload, Packet, dataPdu, dackPdu, countData, countDack}
 use Rattle.window.specs.Ends.{Rules, End, lostOne, applyDack, withLine, withSender, accept, sendAll, takeData}
 
@@ -82,10 +82,7 @@ Waits (lose n) s = Unit {0}
 
 -- what an event at the second side has to meet for the timer of the first
 abbrev pub WaitsAt : Side → Side → Act → Both End → Type 0
-WaitsAt left left a s = Waits a s
-WaitsAt left right a s = Unit {0}
-WaitsAt right left a s = Unit {0}
-WaitsAt right right a s = Waits a (mirror s)
+WaitsAt = AskedAt Waits
 
 module _ (r : Rules) where
   -- the timer of this side waits at every event of the list

@@ -25,6 +25,13 @@ abbrev pub endAt : {E : Type 0} → Side → Both E → E
 endAt left s = s .left
 endAt right s = s .right
 
+-- what P asks of events at the left end, asked for the end of the first side of an event at the second: nothing where they differ
+abbrev pub AskedAt : {A E : Type 0} → (A → Both E → Type 0) → Side → Side → A → Both E → Type 0
+AskedAt P left left a s = P a s
+AskedAt P left right a s = Unit {0}
+AskedAt P right left a s = Unit {0}
+AskedAt P right right a s = P a (mirror s)
+
 -- a list without its element at index n; the same list where it has none there
 abbrev pub eraseAt : {A : Type 0} → ℕ → List A → List A
 eraseAt n [] = []
