@@ -23,6 +23,7 @@ use Rattle.window.proofs.InFlight.{InFlight, sentNext, batch, prefix-sn
 use Rattle.window.proofs.Window.{InWindow, window-deliver, window-repeat, window-acknowledge, window-lose-data, window-lose-dack, window-agrees, window-dack, window-accept, window-send-one, window-send-all}
 use Rattle.window.proofs.Count.{Trail, trail-send-one, trail-deliver, trail-repeat, trail-acknowledge, trail-send-all, Count, count-bound, count-lose, count-accept, count-send-one, count-deliver, count-repeat, count-acknowledge, count-send-all}
 
+-- the two conditions, as the proof has collected them so far
 pub record Assumed : Type 1 where
   pub waited : Type 0
   pub intact : Type 0
@@ -61,10 +62,14 @@ placed-accept {acked} {queue} {y = y} p f = record {
 
 module _ (r : Rules) where
   pub record Flow (a : Assumed) (acked : Payloads) (reached : ℕ) (x : Sender) (y : Receiver) (flight : List InFlight) (dacks : List ℕ) : Type 0 where
+    -- in whole numbers: where the halves stand, and what is in flight between them
     pub placed : Placed acked (x .queue) (x .accepted) (x .base) y
     pub window : InWindow (r .window) (x .accepted) (length acked) (length (y .delivered)) flight dacks
+    -- where payloads are sent at once, all that are accepted were sent
     pub once : T (r .atOnce) → reached ≡ length (x .accepted)
+    -- DATA sent against payloads accepted and packets lost
     pub count : a .waited → Count (r .window) (length (x .accepted)) (length acked) (length (y .delivered)) reached flight dacks (x .sent) (x .lost)
+    -- what is on the line leads to all that is accepted
     pub trail : a .intact → Trail (length (x .accepted)) (length acked) (length (y .delivered)) (length (x .accepted)) flight dacks
 
   module _ {a : Assumed} {acked : Payloads} {reached : ℕ} {x : Sender} {y : Receiver} {flight : List InFlight} {dacks : List ℕ} where

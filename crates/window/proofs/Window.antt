@@ -8,7 +8,7 @@
 --   base ≤ dacks, rising ≤ received ≤ limits of the flight, rising ≤ accepted ≤ base + W
 --
 -- The limit is what keeps old repeats apart from new DATA: it lies above the index and at most W above it, and limits rise along the line.
--- So an index in flight is less than W from the one expected on either side, and the residue alone tells whether it is the same.
+-- So an index in flight is at most W away from the one expected, on either side, and with W below 16 the residue tells whether it is the same.
 use Prim.Native.Nat.{ℕ, suc, _+_, _%_, _≤_, _<_}
 use mathlib.Core.Path.{_≡_, subst}
 use mathlib.Core.Option.{some}
@@ -26,8 +26,11 @@ module _ (W : ℕ) where
   Fits accepted f = (f .index < f .limit) × (f .limit ≤ f .index + W) × (getElem? accepted (f .index) ≡ some (f .payload))
 
   pub record InWindow (accepted : Payloads) (base received : ℕ) (flight : List InFlight) (dacks : List ℕ) : Type 0 where
+    -- DACKs come back in the order in which they were sent, and none acknowledges less than the base or more than was delivered
     pub acks : Rising base dacks received
+    -- DATA is on the line in the order in which it was sent, and none was sent before what is delivered had been accepted
     pub ahead : Rising received (limits flight) (length accepted)
+    -- no more than W payloads are outstanding
     pub room : length accepted ≤ base + W
     pub fits : All (Fits accepted) flight
 
