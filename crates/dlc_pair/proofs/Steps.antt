@@ -28,7 +28,7 @@ use Rattle.dlc_pair.specs.History.{Act, payload, timer, start, arrival, 
 use Rattle.dlc_pair.specs.Rules.{rules}
 use Rattle.dlc_pair.proofs.Codec.{encode, Sound, dataBit, dackBit, isData-encode, isDack-encode, dataPackets-numbered, sound-numbered}
 use Rattle.dlc_pair.proofs.Relation.{modelOf, BothFollow, Becomes, follows-called, becomes-same, losing, follows-relined}
-use Rattle.dlc_pair.proofs.Effects.{fits-accept, fits-sendAll, fits-takeData, fits-lostOne, fits-freed, becomes-sender, becomes-answer, becomes-accept, startEffect, startOf-open, payloadEffect, payloadOf-open, ltb-not-leb, timerEffect, timerOf-open, dataEffect, arrivalOf-data, dackEffect, arrivalOf-dack}
+use Rattle.dlc_pair.proofs.Effects.{fits-sendAll, fits-takeData, fits-lostOne, fits-freed, becomes-sender, becomes-answer, becomes-accept, startEffect, startOf-open, payloadEffect, payloadOf-open, ltb-not-leb, timerEffect, timerOf-open, dataEffect, arrivalOf-data, dackEffect, arrivalOf-dack}
 
 -- a reply buffer that every call refuses
 abbrev pub tooShort : Octets → Bool

@@ -8,6 +8,7 @@ pub mod Flow
 pub mod Invariant
 pub mod Receive
 pub mod SlidingWindow
+pub mod Exchange
 pub mod Progress
 pub mod Deciding
 pub mod Instances

@@ -1,243 +1,175 @@
 -- Progress: with nothing on the lines, one timer call, the arrivals of what it sent and the arrivals of the DACKs empty the queue, and all that
--- was accepted is delivered. This rules out ends that do nothing. The theorem stands last. Assumes nothing.
+-- was accepted is delivered. Recovery: whatever is on the lines, arrivals and one exchange of each end deliver everything both ways. This rules
+-- out ends that do nothing, or get stuck. The theorems stand last. Assumes nothing.
 --
 -- The invariant's trail does the work: it begins when all is sent on a drained line, arrivals keep it, and where nothing is left on the line
 -- it says that all is acknowledged.
-use Prim.Native.Nat.{ℕ, zero, suc, _+_, _-_, _≤_}
-use mathlib.Core.Path.{_≡_, refl, sym, ap, _∙_}
+use Prim.Native.Nat.{ℕ, _+_, _≤_}
+use mathlib.Core.Path.{_≡_, sym, ap, _∙_}
 use mathlib.Core.Bool.{true}
-use mathlib.Core.List.{List, [], _∷_, _++_, append-nil}
+use mathlib.Core.List.{List, [], _++_, append-nil}
 use native.Mathlib.Omega.{arith}
-use lib.Dec.{ltb}
 use lib.ListN.{length, length-append, replicate}
-use borrow.Author.Tests.{ltb-false}
-use Rattle.common.proofs.Bools.{either}
 use Rattle.window.specs.Sides.{Side, left, right, Both, mirror, endAt}
-use Rattle.window.specs.Packets.{Payloads, Packet, dataPdu, dackPdu, countData, countDack, numbered, advance}
-use Rattle.window.specs.Ends.{Rules, Lawful, Sender, End, acknowledges}
-use Rattle.window.specs.Events.{timeout, receive, Event, start, arrive, step, run, Drained}
-use Rattle.window.specs.Claim.{exchange, Settled}
+use Rattle.window.specs.Packets.{Payloads, countData, countDack}
+use Rattle.window.specs.Ends.{Rules, Lawful, End}
+use Rattle.window.specs.Events.{receive, Event, start, run, Drained, TimerWaits}
+use Rattle.window.specs.Claim.{exchange, Settled, recovery, Recovered}
 use Rattle.window.proofs.Rising.{rising-le}
 use Rattle.window.proofs.Count.{trail-end}
 use Rattle.window.proofs.Marks.{dacksOf}
-use Rattle.window.proofs.Flow.{Assumed, flow-length}
-use Rattle.window.proofs.Invariant.{Invariant, invariant-mirror, invariant-weaken, invariant-send-all, invariant-idle, drained-marks}
-use Rattle.window.proofs.Receive.{invariant-arrive}
+use Rattle.window.proofs.Flow.{Assumed, assumed, flow-length}
+use Rattle.window.proofs.Invariant.{Invariant, invariant-mirror, drained-marks}
 use Rattle.window.proofs.SlidingWindow.{invariant-run, invariant-start}
+use Rattle.window.proofs.Exchange.{nil-of, run-++, receives, run-left, run-right, exchange-mirror, Received, received-all, receives-dacks, invariant-receives, begun, Exchanged, exchanged}
 
--- ---- lists
-nil-of : {A : Type 0} (l : List A) → length l ≤ 0 → l ≡ []
-nil-of [] h = refl
-nil-of (x ∷ l) h = absurd (omega (arith, h))
+module _ (r : Rules) (law : Lawful r) where
+  -- ---- nothing of the left end's on the lines, and the trail: all is acknowledged, and so all is delivered
+  settled : {b : Assumed} (z : Both End) → Invariant r (begun r law) b z → Drained z
+      → (z .left .sender .queue ≡ []) × (z .right .receiver .delivered ≡ z .left .sender .accepted)
+  settled z v d = (
+    nil-of (z .left .sender .queue) (omega (arith, flow-length r (v .leftFlow), acked)),
+    sym (append-nil (z .right .receiver .delivered))
+        ∙ ap (λ (l : Payloads). z .right .receiver .delivered ++ l) (sym none-pending)
+        ∙ v .leftFlow .placed .prefix,
+  )
+    where
+      acked : length (z .left .sender .accepted) ≤ length (v .left .acked)
+      acked = trail-end (rw (drained-marks r v d .0, drained-marks r v d .1) at (v .leftFlow .trail tt))
 
-length-numbered : (x : ℕ) (q : Payloads) → length (numbered x q) ≡ length q
-length-numbered x [] = refl
-length-numbered x (p ∷ q) = ap suc (length-numbered (advance x 1) q)
+      behind : length (v .left .acked) ≤ length (z .right .receiver .delivered)
+      behind = rising-le (length (v .left .acked)) (dacksOf (v .right .marks)) (length (z .right .receiver .delivered)) (v .leftFlow .window .acks)
 
-countData-dack : (ks : List Packet) (x : ℕ) → countData (ks ++ (dackPdu x ∷ [])) ≡ countData ks
-countData-dack [] x = refl
-countData-dack (dataPdu y p ∷ ks) x = ap suc (countData-dack ks x)
-countData-dack (dackPdu y ∷ ks) x = countData-dack ks x
+      none-pending : v .leftFlow .placed .pending ≡ []
+      none-pending = nil-of (v .leftFlow .placed .pending)
+          (omega (arith, acked, behind, ap length (v .leftFlow .placed .prefix), length-append (z .right .receiver .delivered) (v .leftFlow .placed .pending)))
 
-module _ (r : Rules) where
-  run-++ : (es fs : List Event) (s : Both End) → run r (es ++ fs) s ≡ run r fs (run r es s)
-  run-++ [] fs s = refl
-  run-++ (e ∷ es) fs s = run-++ es fs _
+  -- nothing on the lines at all
+  settled-end : {b : Assumed} (z : Both End) → Invariant r (begun r law) b z → z .left .line ≡ [] → z .right .line ≡ []
+      → (z .left .sender .queue ≡ []) × (z .right .receiver .delivered ≡ z .left .sender .accepted)
+  settled-end z v el er = settled z v (ap countData el, ap countDack er)
 
-  -- ---- n arrivals at the left end
-  abbrev receives : ℕ → Both End → Both End
-  receives zero s = s
-  receives (suc n) s = receives n (arrive r true (s .right .line) s)
+  progress-left : {a b : Assumed} (s : Both End) → Invariant r a b s → s .left .line ≡ [] → s .right .line ≡ [] → (k m : ℕ)
+      → length (s .left .sender .queue) ≤ k
+      → k ≤ m
+      → Settled left s (run r (exchange left k m) s)
+  progress-left s v el er k m hk hm =
+      let x = exchanged r law s v el er k m hk hm in
+      let done = settled-end (run r (exchange left k m) s) (x .holds) (x .leftLine) (x .rightLine) in
+      record { queue = done .0; accepted = x .leftAccepted; delivered = done .1 ∙ x .leftAccepted; lines = (x .leftLine, x .rightLine) }
 
-  run-left : (n : ℕ) (s : Both End) → run r (replicate n (record { side = left; act = receive true })) s ≡ receives n s
-  run-left zero s = refl
-  run-left (suc n) s = run-left n _
-
-  run-right : (n : ℕ) (s : Both End) → run r (replicate n (record { side = right; act = receive true })) s ≡ mirror (receives n (mirror s))
-  run-right zero s = refl
-  run-right (suc n) s = run-right n _
-
-  -- an exchange of the right end is one of the left end in the mirror
-  exchange-mirror : (k m : ℕ) (s : Both End) → run r (exchange right k m) s ≡ mirror (run r (exchange left k m) (mirror s))
-  exchange-mirror k m s =
-      run-++ (replicate k (record { side = left; act = receive true })) (replicate m (record { side = right; act = receive true })) _
-      ∙ ap (run r (replicate m (record { side = right; act = receive true }))) (run-left k _)
-      ∙ run-right m _
-      ∙ sym (ap mirror (run-++ (replicate k (record { side = right; act = receive true })) (replicate m (record { side = left; act = receive true })) _
-      ∙ ap (run r (replicate m (record { side = left; act = receive true }))) (run-right k _)
-      ∙ run-left m _))
-
-  -- what n arrivals at the left end leave: n packets fewer on the incoming line, at most n more on the outgoing one and no DATA among them,
-  -- and the same payloads accepted
-  record Received (n : ℕ) (s t : Both End) : Type 0 where
-    incoming : length (t .right .line) ≡ length (s .right .line) - n
-    outgoing : length (t .left .line) ≤ length (s .left .line) + n
-    noData : countData (t .left .line) ≡ countData (s .left .line)
+  -- ---- arrivals that leave nothing on the lines: of what is on the left end's line, of what is on the right end's line then, and of the DACKs
+  -- that answer it
+  record Emptied (a b : Assumed) (s t : Both End) : Type 0 where
+    holds : Invariant r a b t
+    leftLine : t .left .line ≡ []
+    rightLine : t .right .line ≡ []
     leftAccepted : t .left .sender .accepted ≡ s .left .sender .accepted
     rightAccepted : t .right .sender .accepted ≡ s .right .sender .accepted
 
-  received-nothing : (s : Both End) → Received 0 s s
-  received-nothing s = record { incoming = omega arith; outgoing = omega arith; noData = refl; leftAccepted = refl; rightAccepted = refl }
+  abbrev arrivals : ℕ → Both End → Both End
+  arrivals n s = mirror (receives r (n + n) (mirror (receives r (n + n) (mirror (receives r n (mirror s))))))
 
-  received-one : (ks : List Packet) (s : Both End) → s .right .line ≡ ks → Received 1 s (arrive r true ks s)
-  received-one [] s e = record {
-    incoming = omega (arith, ap length e);
-    outgoing = omega arith;
-    noData = refl;
-    leftAccepted = refl;
-    rightAccepted = refl;
+  emptied : {a b : Assumed} (s : Both End) → Invariant r a b s → (n : ℕ) → length (s .left .line) ≤ n → length (s .right .line) ≤ n → Emptied a b s (arrivals n s)
+  emptied s v n hl hr = record {
+    holds = invariant-mirror r (invariant-receives r law (n + n) (mirror u) (invariant-mirror r
+        (invariant-receives r law (n + n) t (invariant-mirror r (invariant-receives r law n (mirror s) (invariant-mirror r v))))));
+    leftLine = nil-of (arrivals n s .left .line) (omega (arith, third .incoming, second .outgoing, leftGone));
+    rightLine = receives-dacks r (n + n) (mirror u) (second .noData ∙ ap countData (nil-of (t .left .line) leftGone)) ∙ nil-of (u .right .line) rightGone;
+    leftAccepted = third .rightAccepted ∙ second .leftAccepted ∙ first .rightAccepted;
+    rightAccepted = third .leftAccepted ∙ second .rightAccepted ∙ first .leftAccepted;
   }
-  received-one (dataPdu x p ∷ ks) s e = record {
-    incoming = omega (arith, ap length e);
-    outgoing = simp length-append (omega arith);
-    noData = countData-dack (s .left .line) _;
-    leftAccepted = refl;
-    rightAccepted = refl;
-  }
-  received-one (dackPdu x ∷ ks) s e = record {
-    incoming = omega (arith, ap length e);
-    outgoing = omega arith;
-    noData = refl;
-    leftAccepted = either (λ (y : Sender). y .accepted ≡ s .left .sender .accepted)
-        (acknowledges (r .distance (s .left .sender .base) x) (s .left .sender .queue)) (λ b. refl) (λ b. refl);
-    rightAccepted = refl;
-  }
+    where
+      t : Both End
+      t = mirror (receives r n (mirror s))
 
-  received-all : (n : ℕ) (s : Both End) → Received n s (receives n s)
-  received-all zero s = received-nothing s
-  received-all (suc n) s =
-      let a = received-one (s .right .line) s refl in
-      let b = received-all n (arrive r true (s .right .line) s) in
-      record {
-        incoming = omega (arith, a .incoming, b .incoming);
-        outgoing = omega (arith, a .outgoing, b .outgoing);
-        noData = b .noData ∙ a .noData;
-        leftAccepted = b .leftAccepted ∙ a .leftAccepted;
-        rightAccepted = b .rightAccepted ∙ a .rightAccepted;
-      }
+      u : Both End
+      u = receives r (n + n) t
 
-  -- where no DATA arrives, nothing is sent
-  only-dacks : (ks : List Packet) (s : Both End) → s .right .line ≡ ks → countData ks ≡ 0
-      → (arrive r true ks s .left .line ≡ s .left .line) × (countData (arrive r true ks s .right .line) ≡ 0)
-  only-dacks [] s e h = (refl, ap countData e)
-  only-dacks (dataPdu x p ∷ ks) s e h = absurd (omega (arith, h))
-  only-dacks (dackPdu x ∷ ks) s e h = (refl, h)
+      first : Received r n (mirror s) (receives r n (mirror s))
+      first = received-all r n (mirror s)
 
-  receives-dacks : (n : ℕ) (s : Both End) → countData (s .right .line) ≡ 0 → receives n s .left .line ≡ s .left .line
-  receives-dacks zero s h = refl
-  receives-dacks (suc n) s h =
-      let one = only-dacks (s .right .line) s refl h in
-      receives-dacks n (arrive r true (s .right .line) s) (one .1) ∙ one .0
+      second : Received r (n + n) t u
+      second = received-all r (n + n) t
 
-  module _ (law : Lawful r) where
-    invariant-receives : (n : ℕ) {a b : Assumed} (s : Both End) → Invariant r a b s → Invariant r a b (receives n s)
-    invariant-receives zero s v = v
-    invariant-receives (suc n) s v = invariant-receives n _ (invariant-arrive r law s v)
+      third : Received r (n + n) (mirror u) (receives r (n + n) (mirror u))
+      third = received-all r (n + n) (mirror u)
 
-    -- ---- the timer: at most the queue is on the line, and a trail has begun
-    abbrev begun : Assumed
-    begun = record { waited = ⊥; intact = Unit {0} }
+      leftGone : length (t .left .line) ≤ 0
+      leftGone = omega (arith, first .incoming)
 
-    record Begun (b : Assumed) (s t : Both End) : Type 0 where
-      holds : Invariant r begun b t
-      outgoing : length (t .left .line) ≤ length (s .left .sender .queue)
-      incoming : t .right .line ≡ []
-      accepted : t .left .sender .accepted ≡ s .left .sender .accepted
+      rightGone : length (u .right .line) ≤ 0
+      rightGone = omega (arith, second .incoming, first .outgoing)
 
-    timer-begins : {a b : Assumed} (s : Both End) → Invariant r a b s → s .left .line ≡ [] → s .right .line ≡ [] → Begun b s (step r (timeout true) s)
-    timer-begins {a} {b} s v el er = either (Begun b s) (ltb 0 (length (s .left .sender .queue)))
-        (λ e. record {
-          holds = invariant-weaken r (λ u. absurd u) (λ u. drained) (λ u. u) (λ u. u) (invariant-send-all r s v);
-          outgoing = rw el (omega (arith, length-numbered (s .left .sender .base) (s .left .sender .queue)));
-          incoming = er;
-          accepted = refl;
-        })
-        (λ e. record {
-          holds = invariant-weaken r (λ u. absurd u) (λ u. u) (λ u. u) (λ u. u) (invariant-idle r s v (nil-of (s .left .sender .queue) (ltb-false 0 _ e)) drained);
-          outgoing = rw el (omega arith);
-          incoming = er;
-          accepted = refl;
-        })
-      where
-        drained : Drained s
-        drained = (ap countData el, ap countDack er)
+  -- a queue holds no more than the window
+  queue-small : {a b : Assumed} (s : Both End) → Invariant r a b s → length (s .left .sender .queue) ≤ r .window
+  queue-small s v = omega (arith, v .leftFlow .window .room, flow-length r (v .leftFlow))
 
-    -- ---- nothing of the left end's on the lines, and the trail: all is acknowledged, and so all is delivered
-    settled : {b : Assumed} (z : Both End) → Invariant r begun b z → Drained z
-        → (z .left .sender .queue ≡ []) × (z .right .receiver .delivered ≡ z .left .sender .accepted)
-    settled z v d = (
-      nil-of (z .left .sender .queue) (omega (arith, flow-length r (v .leftFlow), acked)),
-      sym (append-nil (z .right .receiver .delivered))
-          ∙ ap (λ (l : Payloads). z .right .receiver .delivered ++ l) (sym none-pending)
-          ∙ v .leftFlow .placed .prefix,
-    )
-      where
-        acked : length (z .left .sender .accepted) ≤ length (v .left .acked)
-        acked = trail-end (rw (drained-marks r v d .0, drained-marks r v d .1) at (v .leftFlow .trail tt))
+  recovery-run : (n : ℕ) (s : Both End) → run r (recovery n) s ≡ run r (exchange right n n) (run r (exchange left n n) (arrivals n s))
+  recovery-run n s =
+      let a : List Event = replicate n (record { side = right; act = receive true }) in
+      let b : List Event = replicate (n + n) (record { side = left; act = receive true }) in
+      let c : List Event = replicate (n + n) (record { side = right; act = receive true }) in
+      let d : List Event = exchange left n n ++ exchange right n n in
+      run-++ r a (b ++ (c ++ d)) s
+      ∙ ap (run r (b ++ (c ++ d))) (run-right r n s)
+      ∙ run-++ r b (c ++ d) _
+      ∙ ap (run r (c ++ d)) (run-left r (n + n) _)
+      ∙ run-++ r c d _
+      ∙ ap (run r d) (run-right r (n + n) _)
+      ∙ run-++ r (exchange left n n) (exchange right n n) (arrivals n s)
 
-        behind : length (v .left .acked) ≤ length (z .right .receiver .delivered)
-        behind = rising-le (length (v .left .acked)) (dacksOf (v .right .marks)) (length (z .right .receiver .delivered)) (v .leftFlow .window .acks)
+  recovered : {a b : Assumed} (s : Both End) → Invariant r a b s → (n : ℕ) → length (s .left .line) ≤ n → length (s .right .line) ≤ n → r .window ≤ n
+      → Recovered s (run r (recovery n) s)
+  recovered {a} {b} s v n hl hr hw = rw (recovery-run n s ∙ exchange-mirror r n n y) (record {
+    queues = (forth .0, back .0);
+    lines = (second .rightLine, second .leftLine);
+    leftToRight = forth .1 ∙ second .rightAccepted ∙ first .leftAccepted ∙ empty .leftAccepted;
+    rightToLeft = back .1 ∙ second .leftAccepted ∙ first .rightAccepted ∙ empty .rightAccepted;
+  })
+    where
+      w : Both End
+      w = arrivals n s
 
-        none-pending : v .leftFlow .placed .pending ≡ []
-        none-pending = nil-of (v .leftFlow .placed .pending)
-            (omega (arith, acked, behind, ap length (v .leftFlow .placed .prefix), length-append (z .right .receiver .delivered) (v .leftFlow .placed .pending)))
+      empty : Emptied a b s w
+      empty = emptied s v n hl hr
 
-    progress-left : {a b : Assumed} (s : Both End) → Invariant r a b s → s .left .line ≡ [] → s .right .line ≡ [] → (k m : ℕ)
-        → length (s .left .sender .queue) ≤ k → k ≤ m
-        → Settled left s (run r (exchange left k m) s)
-    progress-left {a} {b} s v el er k m hk hm = rw path (record {
-      queue = done .0;
-      accepted = accepted;
-      delivered = done .1 ∙ accepted;
-      lines = (receives-dacks m u (second .noData ∙ ap countData (first .incoming)) ∙ leftLine, rightLine);
-    })
-      where
-        t : Both End
-        t = step r (timeout true) s
+      y : Both End
+      y = run r (exchange left n n) w
 
-        u : Both End
-        u = mirror (receives k (mirror t))
+      first : Exchanged r law b w y
+      first = exchanged r law w (empty .holds) (empty .leftLine) (empty .rightLine) n n (omega (arith, queue-small w (empty .holds))) (omega arith)
 
-        z : Both End
-        z = receives m u
+      -- the right end's exchange, in the mirror; the left end's trail leads through it
+      z : Both End
+      z = run r (exchange left n n) (mirror y)
 
-        path : run r (exchange left k m) s ≡ z
-        path = run-++ (replicate k (record { side = right; act = receive true })) (replicate m (record { side = left; act = receive true })) t
-            ∙ ap (run r (replicate m (record { side = left; act = receive true }))) (run-right k t)
-            ∙ run-left m u
+      second : Exchanged r law (begun r law) (mirror y) z
+      second = exchanged r law (mirror y) (invariant-mirror r (first .holds)) (first .rightLine) (first .leftLine) n n
+          (omega (arith, queue-small (mirror y) (invariant-mirror r (first .holds)))) (omega arith)
 
-        first : Begun b s t
-        first = timer-begins s v el er
+      back : (z .left .sender .queue ≡ []) × (z .right .receiver .delivered ≡ z .left .sender .accepted)
+      back = settled-end z (second .holds) (second .leftLine) (second .rightLine)
 
-        second : Received k (mirror t) (receives k (mirror t))
-        second = received-all k (mirror t)
+      forth : (z .right .sender .queue ≡ []) × (z .left .receiver .delivered ≡ z .right .sender .accepted)
+      forth = settled-end (mirror z) (invariant-mirror r (second .holds)) (second .rightLine) (second .leftLine)
 
-        third : Received m u z
-        third = received-all m u
+  -- ---- the theorems, from every state that events lead to
+  reached : (es : List Event) → Invariant r (assumed (Unit {0} × TimerWaits r left es start)) (assumed (Unit {0} × TimerWaits r right es start)) (run r es start)
+  reached es = invariant-run r law es start (invariant-start r law)
 
-        held : Invariant r begun b z
-        held = invariant-receives m u (invariant-mirror r (invariant-receives k (mirror t) (invariant-mirror r (first .holds))))
+  -- with nothing on the lines, an exchange of an end
+  pub progress : (es : List Event) (d : Side) → run r es start .left .line ≡ [] → run r es start .right .line ≡ [] → (k m : ℕ)
+      → length (endAt d (run r es start) .sender .queue) ≤ k
+      → k ≤ m
+      → Settled d (run r es start) (run r (exchange d k m) (run r es start))
+  progress es left el er k m hk hm = progress-left (run r es start) (reached es) el er k m hk hm
+  progress es right el er k m hk hm =
+      let s = run r es start in
+      let p = progress-left (mirror s) (invariant-mirror r (reached es)) er el k m hk hm in
+      rw (exchange-mirror r k m s) (record { queue = p .queue; accepted = p .accepted; delivered = p .delivered; lines = (p .lines .1, p .lines .0) })
 
-        leftLine : u .left .line ≡ []
-        leftLine = nil-of (u .left .line) (omega (arith, second .incoming, first .outgoing))
-
-        rightLine : z .right .line ≡ []
-        rightLine = nil-of (z .right .line) (omega (arith, third .incoming, second .outgoing, ap length (first .incoming)))
-
-        done : (z .left .sender .queue ≡ []) × (z .right .receiver .delivered ≡ z .left .sender .accepted)
-        done = settled z held (third .noData ∙ ap countData leftLine, ap countDack rightLine)
-
-        accepted : z .left .sender .accepted ≡ s .left .sender .accepted
-        accepted = third .leftAccepted ∙ second .rightAccepted ∙ first .accepted
-
-    -- ---- at either end, from every state that events lead to
-    pub progress : (es : List Event) (d : Side) → run r es start .left .line ≡ [] → run r es start .right .line ≡ [] → (k m : ℕ)
-        → length (endAt d (run r es start) .sender .queue) ≤ k
-        → k ≤ m
-        → Settled d (run r es start) (run r (exchange d k m) (run r es start))
-    progress es left el er k m hk hm = progress-left (run r es start) (invariant-run r law es start (invariant-start r law)) el er k m hk hm
-    progress es right el er k m hk hm =
-        let s = run r es start in
-        let p = progress-left (mirror s) (invariant-mirror r (invariant-run r law es start (invariant-start r law))) er el k m hk hm in
-        let e : run r (exchange right k m) s ≡ mirror (run r (exchange left k m) (mirror s)) = exchange-mirror k m s in
-        rw e (record { queue = p .queue; accepted = p .accepted; delivered = p .delivered; lines = (p .lines .1, p .lines .0) })
+  -- whatever is on the lines
+  pub recovers : (es : List Event) (n : ℕ) → length (run r es start .left .line) ≤ n → length (run r es start .right .line) ≤ n → r .window ≤ n
+      → Recovered (run r es start) (run r (recovery n) (run r es start))
+  recovers es n hl hr hw = recovered (run r es start) (reached es) n hl hr hw

@@ -31,3 +31,19 @@ pub record Settled (d : Side) (s z : Both End) : Type 0 where
   pub accepted : endAt d z .sender .accepted ≡ endAt d s .sender .accepted
   pub delivered : endAt (opposite d) z .receiver .delivered ≡ endAt d s .sender .accepted
   pub lines : (z .left .line ≡ []) × (z .right .line ≡ [])
+
+-- ---- recovery
+-- arrivals of whatever is on the lines, then an exchange of the left end and one of the right end; none is refused and nothing is lost
+abbrev pub recovery : ℕ → List Event
+recovery n =
+    replicate n (record { side = right; act = receive true })
+    ++ (replicate (n + n) (record { side = left; act = receive true })
+    ++ (replicate (n + n) (record { side = right; act = receive true })
+    ++ (exchange left n n ++ exchange right n n)))
+
+-- from s to z: both queues and both lines are empty, and all that was accepted at either end is delivered at the other
+pub record Recovered (s z : Both End) : Type 0 where
+  pub queues : (z .left .sender .queue ≡ []) × (z .right .sender .queue ≡ [])
+  pub lines : (z .left .line ≡ []) × (z .right .line ≡ [])
+  pub leftToRight : z .right .receiver .delivered ≡ s .left .sender .accepted
+  pub rightToLeft : z .left .receiver .delivered ≡ s .right .sender .accepted
