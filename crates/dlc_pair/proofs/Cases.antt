@@ -11,7 +11,8 @@ use Rattle.dlc.specs.Answers.{done, otherNumber, queueFull, shortReply}
 use Rattle.dlc.specs.Limits.{dataPacket, dackPacket, resetPacket}
 use Rattle.window.specs.Sides.{left, right}
 use Rattle.dlc_pair.specs.World.{Octets, isData, isDack, count, packetsIn, World, freshEnd, initial}
-use Rattle.dlc_pair.specs.History.{timer, Event, History, called, relined, acceptedBy, deliveredBy, lostBy, lostAt, Drained, TimerWaits}
+use Rattle.dlc_pair.specs.History.{timer, arrival, Event, History, called, relined, acceptedBy, deliveredBy, lostBy, lostAt, Drained, TimerWaits}
+use Rattle.dlc_pair.specs.Progress.{exchange, recovery}
 
 -- ---- packets
 -- 4x is DATA whatever x is, 5x is DACK, RESET is neither
@@ -79,3 +80,11 @@ premise-before b w h = refl
 
 pub premise-other : (b : Octets) (w : World) (h : History (timerAt b) w) → TimerWaits right (timerAt b) w h ≡ (Unit {0} × Unit {0})
 premise-other b w h = refl
+
+-- ---- an exchange of one payload: the timer here, DATA there, the DACK back; recovery with nothing to arrive is the two timers
+pub one-exchange : (b : Octets) → exchange left b (b ∷ []) (b ∷ [])
+    ≡ record { side = left; act = timer b } ∷ record { side = right; act = arrival b } ∷ record { side = left; act = arrival b } ∷ []
+one-exchange b = refl
+
+pub two-timers : (b : Octets) → recovery b 0 ≡ record { side = left; act = timer b } ∷ record { side = right; act = timer b } ∷ []
+two-timers b = refl
