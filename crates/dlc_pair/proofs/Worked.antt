@@ -107,3 +107,43 @@ tight l l′ e e′ h =
       bound = f .left .sent ∙ sym (λ i. length (f .left .accepted i) + slots * f .left .lost i);
       waits = timerWaits-back left tightEvents (follow-initial l l′ e e′) h (timerWaits-true rules left (map eventOf tightEvents) packetStart tt);
     }
+
+-- ---- both ends send. The left end's timer is called twice while the right end's DATA is on the line, and its premise holds: it asks for none of
+-- its own DATA and no DACK to it, and nothing else. Its first DATA is lost
+abbrev pub duplexEvents : List Event
+duplexEvents =
+    at left (payload (1 ∷ []) buffer)
+    ∷ at right (payload (2 ∷ []) buffer)
+    ∷ at right (timer buffer)
+    ∷ at left (timer buffer)
+    ∷ at left (loss 0)
+    ∷ at left (timer buffer)
+    ∷ at right (arrival buffer)
+    ∷ at left (arrival buffer)
+    ∷ at left (arrival buffer)
+    ∷ at right (arrival buffer)
+    ∷ []
+
+pub record Duplex (l l′ : Link) (h : History duplexEvents (initial l l′)) : Type 0 where
+  pub leftToRight : final duplexEvents (initial l l′) h .right .delivered ≡ (1 ∷ []) ∷ []
+  pub rightToLeft : final duplexEvents (initial l l′) h .left .delivered ≡ (2 ∷ []) ∷ []
+  pub leftSent : dataSent (final duplexEvents (initial l l′) h .left) ≡ 2
+  pub leftLost : final duplexEvents (initial l l′) h .left .lost ≡ 1
+  pub rightSent : dataSent (final duplexEvents (initial l l′) h .right) ≡ 1
+  pub rightLost : final duplexEvents (initial l l′) h .right .lost ≡ 0
+  pub leftWaits : TimerWaits left duplexEvents (initial l l′) h
+  pub rightWaits : TimerWaits right duplexEvents (initial l l′) h
+
+pub duplex : (l l′ : Link) → view l ≡ opened → view l′ ≡ opened → (h : History duplexEvents (initial l l′)) → Duplex l l′ h
+duplex l l′ e e′ h =
+    let f : BothFollow (final duplexEvents (initial l l′) h) (runOf duplexEvents packetStart) = run-follows duplexEvents (follow-initial l l′ e e′) h in
+    record {
+      leftToRight = f .right .delivered;
+      rightToLeft = f .left .delivered;
+      leftSent = f .left .sent;
+      leftLost = f .left .lost;
+      rightSent = f .right .sent;
+      rightLost = f .right .lost;
+      leftWaits = timerWaits-back left duplexEvents (follow-initial l l′ e e′) h (timerWaits-true rules left (map eventOf duplexEvents) packetStart tt);
+      rightWaits = timerWaits-back right duplexEvents (follow-initial l l′ e e′) h (timerWaits-true rules right (map eventOf duplexEvents) packetStart tt);
+    }
