@@ -1,4 +1,5 @@
 // Every event in every state of a link, every control octet in every state, every refusal, every way of being ill formed: a table on standard output.
+// Links, events and buffers are chosen by numbers, so that one function makes the call.
 use dlc::Answer;
 use dlc::Link;
 use dlc::Outcome;
@@ -22,6 +23,16 @@ fn hex(x: u8) {
     io::print_hex(STDOUT_FILENO, x as u64, 2);
 }
 
+// ---- links
+fn state_of(k: usize) -> State {
+    match k {
+        0 => State::Idle,
+        1 => State::Reset,
+        2 => State::Data,
+        _ => State::Wait,
+    }
+}
+
 fn state_name(s: State) {
     match s {
         State::Idle => text(b"DLIDLE"),
@@ -31,40 +42,256 @@ fn state_name(s: State) {
     }
 }
 
-// A well-formed link in each state; the open ones are about to pass 15, and the waiting one has two payloads.
-fn link_in(state: usize) -> Link {
-    let none = Queue::new();
-    let one = none.push(b"A");
-    let two = one.push(b"BC");
-    match state {
-        0 => Link::new(),
-        1 => Link {
-            state: State::Reset,
-            queue: none,
-            base: 0,
-            expected: 0,
-        },
-        2 => Link {
-            state: State::Data,
-            queue: none,
-            base: 14,
-            expected: 15,
-        },
-        _ => Link {
-            state: State::Wait,
-            queue: two,
-            base: 14,
-            expected: 15,
-        },
+// At most the first n octets.
+fn prefix(s: &[u8], n: usize) -> &[u8] {
+    if n < s.len() {
+        return &s[..n];
+    }
+    s
+}
+
+// A queue of n payloads of 0, 1, 2 .. octets.
+fn filled(n: usize) -> Queue {
+    let mut q = Queue::new();
+    let mut i = 0;
+    while i < n {
+        q = q.push(prefix(b"ABCDEF", i));
+        i += 1;
+    }
+    q
+}
+
+// The queue with another count, and with a length of 257 in a slot.
+fn counting(mut q: Queue, n: usize) -> Queue {
+    q.count = n;
+    q
+}
+
+fn lengthened(mut q: Queue, i: usize) -> Queue {
+    if i < 7 {
+        let mut p = q.slots[i];
+        p.len = 257;
+        q.slots[i] = p;
+    }
+    q
+}
+
+fn queue_of(k: usize) -> Queue {
+    match k {
+        0 => filled(0),
+        1 => filled(3),
+        2 => filled(7),
+        3 => counting(filled(7), 8),
+        4 => lengthened(filled(3), 1),
+        _ => lengthened(filled(3), 3),
     }
 }
 
-// The answer's number, the link after it, what the upper layer is told, and the packets sent.
-fn show(r: Outcome, reply: &[u8]) {
+// State, queue and numbers of a link.
+struct Shape {
+    state: usize,
+    queue: usize,
+    base: u8,
+    expected: u8,
+}
+
+fn shape_of(state: usize, queue: usize, base: u8, expected: u8) -> Shape {
+    Shape {
+        state: state,
+        queue: queue,
+        base: base,
+        expected: expected,
+    }
+}
+
+// 0 to 3: a link in each state, the open ones about to pass 15. 4: a full queue. 5 to 16: a value that is no link, for each way of being none.
+// 17: a link whose free slots hold anything.
+fn shape_at(k: usize) -> Shape {
+    match k {
+        0 => shape_of(0, 0, 0, 0),
+        1 => shape_of(1, 0, 0, 0),
+        2 => shape_of(2, 0, 14, 15),
+        3 => shape_of(3, 1, 14, 15),
+        4 => shape_of(3, 2, 14, 15),
+        5 => shape_of(3, 3, 14, 15),
+        6 => shape_of(3, 4, 14, 15),
+        7 => shape_of(2, 0, 16, 15),
+        8 => shape_of(2, 0, 14, 16),
+        9 => shape_of(3, 0, 14, 15),
+        10 => shape_of(2, 1, 14, 15),
+        11 => shape_of(0, 1, 0, 0),
+        12 => shape_of(0, 0, 1, 0),
+        13 => shape_of(0, 0, 0, 1),
+        14 => shape_of(1, 1, 0, 0),
+        15 => shape_of(1, 0, 1, 0),
+        16 => shape_of(1, 0, 0, 1),
+        _ => shape_of(3, 5, 14, 15),
+    }
+}
+
+fn name(k: usize) {
+    match k {
+        0 => text(b"DLIDLE"),
+        1 => text(b"DLRESET"),
+        2 => text(b"DLDATA"),
+        3 => text(b"DLDWAIT"),
+        4 => text(b"DLDWAIT with a full queue"),
+        5 => text(b"a count of 8"),
+        6 => text(b"a queued length of 257"),
+        7 => text(b"base 16"),
+        8 => text(b"expected 16"),
+        9 => text(b"DLDWAIT without a queue"),
+        10 => text(b"DLDATA with a queue"),
+        11 => text(b"DLIDLE with a queue"),
+        12 => text(b"DLIDLE with base 1"),
+        13 => text(b"DLIDLE with expected 1"),
+        14 => text(b"DLRESET with a queue"),
+        15 => text(b"DLRESET with base 1"),
+        16 => text(b"DLRESET with expected 1"),
+        _ => text(b"DLDWAIT with a length of 257 in a free slot"),
+    }
+}
+
+fn link_of(k: usize) -> Link {
+    if k == 0 {
+        return Link::new();
+    }
+    let p = shape_at(k);
+    let s = state_of(p.state);
+    let q = queue_of(p.queue);
+    Link {
+        state: s,
+        queue: q,
+        base: p.base,
+        expected: p.expected,
+    }
+}
+
+// ---- events
+// Start, timer, or a payload or packet of len octets, the first of which is given.
+struct Event {
+    kind: u8,
+    len: usize,
+    first: u8,
+}
+
+fn event_of(kind: u8, len: usize, first: u8) -> Event {
+    Event {
+        kind: kind,
+        len: len,
+        first: first,
+    }
+}
+
+// The events of the table in order.
+fn event_at(i: usize) -> Event {
+    match i {
+        0 => event_of(0, 0, 0),
+        1 => event_of(1, 0, 0),
+        2 => event_of(2, 0, 0),
+        3 => event_of(2, 256, 0),
+        4 => event_of(2, 257, 0),
+        5 => event_of(3, 1, 16),
+        6 => event_of(3, 1, 32),
+        7 => event_of(3, 4, 79),
+        8 => event_of(3, 1, 79),
+        9 => event_of(3, 257, 79),
+        10 => event_of(3, 258, 79),
+        11 => event_of(3, 4, 78),
+        12 => event_of(3, 4, 64),
+        13 => event_of(3, 1, 94),
+        14 => event_of(3, 1, 95),
+        15 => event_of(3, 1, 81),
+        16 => event_of(3, 1, 82),
+        17 => event_of(3, 1, 85),
+        18 => event_of(3, 1, 86),
+        _ => event_of(3, 0, 0),
+    }
+}
+
+fn event_name(i: usize) {
+    match i {
+        0 => text(b"start"),
+        1 => text(b"timer"),
+        2 => text(b"payload of 0"),
+        3 => text(b"payload of 256"),
+        4 => text(b"payload of 257"),
+        5 => text(b"RESET"),
+        6 => text(b"RESET_ACK"),
+        7 => text(b"DATA 15 with 3"),
+        8 => text(b"DATA 15 with 0"),
+        9 => text(b"DATA 15 with 256"),
+        10 => text(b"DATA 15 with 257"),
+        11 => text(b"DATA 14 with 3"),
+        12 => text(b"DATA 0 with 3"),
+        13 => text(b"DACK 14"),
+        14 => text(b"DACK 15"),
+        15 => text(b"DACK 1"),
+        16 => text(b"DACK 2"),
+        17 => text(b"DACK 5"),
+        18 => text(b"DACK 6"),
+        _ => text(b"empty packet"),
+    }
+}
+
+fn play(l: Link, kind: u8, octets: &[u8], reply: &mut [u8]) -> Outcome {
+    if kind == 0 {
+        return l.start(reply);
+    }
+    if kind == 1 {
+        return l.timer(reply);
+    }
+    if kind == 2 {
+        return l.payload(octets, reply);
+    }
+    l.arrival(octets, reply)
+}
+
+// One call: the link k, an event, a reply buffer of 1,799 octets or of one less. Prints the answer's number, or all that came back.
+fn run(k: usize, e: Event, short: bool, brief: bool) {
+    let mut octets = [b'x'; 258];
+    octets[0] = e.first;
+    let packet = prefix(&octets, e.len);
+    if short {
+        let mut small = [0u8; 1798];
+        code(play(link_of(k), e.kind, packet, &mut small));
+        return;
+    }
+    let mut reply = [0u8; Link::REPLY];
+    let r = play(link_of(k), e.kind, packet, &mut reply);
+    if brief {
+        code(r);
+    } else {
+        show(r, packet, &reply);
+    }
+}
+
+// ---- what came back
+fn code(r: Outcome) {
     let a = r.answer;
-    let l = r.link;
-    text(b" -> ");
     octet(a.code);
+}
+
+// The answer's number, the link after it, what the upper layer is told, and the packets sent.
+fn show(r: Outcome, packet: &[u8], reply: &[u8]) {
+    let a = r.answer;
+    octet(a.code);
+    let l = r.link;
+    show_link(l);
+    let up = a.upper_reset;
+    if up {
+        text(b" upper reset");
+    }
+    let delivered = a.delivered;
+    if delivered {
+        text(b" delivered");
+        octets(a.payload(packet), 0, 256);
+    }
+    packets(a, reply);
+    text(b"\n");
+}
+
+fn show_link(l: Link) {
     text(b" ");
     let s = l.state;
     state_name(s);
@@ -75,16 +302,6 @@ fn show(r: Outcome, reply: &[u8]) {
     octet(l.base);
     text(b" expected ");
     octet(l.expected);
-    let up = a.upper_reset;
-    if up {
-        text(b" reset");
-    }
-    let delivered = a.delivered;
-    if delivered {
-        text(b" delivered");
-    }
-    packets(a, reply);
-    text(b"\n");
 }
 
 // The packets that an answer says were sent, in hexadecimal.
@@ -113,378 +330,77 @@ fn after(at: usize, k: usize) -> usize {
     at
 }
 
-// At most eight octets of a buffer from an index on, and dots where there are more.
+// At most eight of k octets of a buffer from an index on, and dots where there are more.
 fn octets(s: &[u8], at: usize, k: usize) {
     let mut i = 0;
-    while i < 8 {
+    while i < 9 {
         if i < k {
             let j = after(at, i);
             if j < s.len() {
-                text(b" ");
-                hex(s[j]);
+                if i < 8 {
+                    text(b" ");
+                    hex(s[j]);
+                } else {
+                    text(b" ..");
+                }
             }
         }
         i += 1;
     }
-    if 8 < k {
-        text(b" ..");
+}
+
+// ---- the tables
+// Every event at the link k.
+fn rows(k: usize) {
+    for i in 0..20 {
+        name(k);
+        text(b", ");
+        event_name(i);
+        text(b" -> ");
+        run(k, event_at(i), false, false);
     }
 }
 
-// An event of the table: start, timer, a payload or a packet of the first len octets.
-struct Event {
-    kind: u8,
-    len: usize,
-    octets: [u8; 4],
-}
-
-fn event_of(kind: u8, len: usize, first: u8) -> Event {
-    Event {
-        kind: kind,
-        len: len,
-        octets: [first, b'x', b'y', b'z'],
+// Every event's number at the link k, in one line.
+fn line(k: usize, short: bool) {
+    name(k);
+    text(b":");
+    for i in 0..20 {
+        text(b" ");
+        run(k, event_at(i), short, true);
     }
-}
-
-// The events of the table in order.
-fn event_at(event: usize) -> Event {
-    match event {
-        0 => event_of(0, 0, 0),
-        1 => event_of(1, 0, 0),
-        2 => event_of(2, 0, 0),
-        3 => event_of(2, 3, b'w'),
-        4 => event_of(3, 1, 16),
-        5 => event_of(3, 1, 32),
-        6 => event_of(3, 4, 79),
-        7 => event_of(3, 1, 79),
-        8 => event_of(3, 4, 78),
-        9 => event_of(3, 4, 64),
-        10 => event_of(3, 1, 94),
-        11 => event_of(3, 1, 95),
-        12 => event_of(3, 1, 80),
-        13 => event_of(3, 1, 81),
-        _ => event_of(3, 0, 0),
-    }
-}
-
-// At most the first n octets.
-fn prefix(s: &[u8], n: usize) -> &[u8] {
-    if n < s.len() {
-        return &s[..n];
-    }
-    s
-}
-
-fn play(l: Link, e: Event, reply: &mut [u8]) -> Outcome {
-    let kind = e.kind;
-    let len = e.len;
-    let octets = e.octets;
-    if kind == 0 {
-        return l.start(reply);
-    }
-    if kind == 1 {
-        return l.timer(reply);
-    }
-    if kind == 2 {
-        return l.payload(prefix(&octets, len), reply);
-    }
-    l.arrival(prefix(&octets, len), reply)
-}
-
-fn event_name(event: usize) {
-    match event {
-        0 => text(b"start"),
-        1 => text(b"timer"),
-        2 => text(b"payload of 0"),
-        3 => text(b"payload of 3"),
-        4 => text(b"RESET"),
-        5 => text(b"RESET_ACK"),
-        6 => text(b"DATA 15, 3 octets"),
-        7 => text(b"DATA 15, 0 octets"),
-        8 => text(b"DATA 14"),
-        9 => text(b"DATA 0"),
-        10 => text(b"DACK 14"),
-        11 => text(b"DACK 15"),
-        12 => text(b"DACK 0"),
-        13 => text(b"DACK 1"),
-        _ => text(b"empty packet"),
-    }
-}
-
-fn row(state: usize, event: usize) {
-    let mut reply = [0u8; Link::REPLY];
-    let l = link_in(state);
-    let s = l.state;
-    state_name(s);
-    text(b", ");
-    event_name(event);
-    let e = event_at(event);
-    let r = play(l, e, &mut reply);
-    show(r, &reply);
-}
-
-fn rows(state: usize) {
-    for event in 0..15 {
-        row(state, event);
-    }
-}
-
-// What each of the 256 control octets is answered in a state, alone or with an octet behind it: a line for each high nibble.
-fn controls(state: usize, alone: bool) {
     text(b"\n");
-    let l = link_in(state);
-    let s = l.state;
-    state_name(s);
-    if alone {
-        text(b", packets of 1\n");
-    } else {
-        text(b", packets of 2\n");
-    }
+}
+
+// The numbers of all packets of len octets at the link k: a line for each high nibble of the control octet.
+fn controls(k: usize, len: usize) {
+    text(b"\npackets of ");
+    number(len);
+    text(b" at ");
+    name(k);
+    text(b"\n");
     for high in 0..16u8 {
-        control_line(l, high, alone);
+        nibble(k, len, high);
     }
 }
 
-fn control_line(l: Link, high: u8, alone: bool) {
+fn nibble(k: usize, len: usize, high: u8) {
     for low in 0..16u8 {
         text(b" ");
-        let c = std::num::wrapping_add_u8(nibble(high), low);
-        octet(control(l, c, alone));
+        let c = std::num::wrapping_add_u8(sixteen(high), low);
+        run(k, event_of(3, len, c), false, true);
     }
     text(b"\n");
 }
 
-// A high nibble as an octet.
-fn nibble(high: u8) -> u8 {
+fn sixteen(high: u8) -> u8 {
     if high < 16 { high * 16 } else { 0 }
 }
 
-fn control(l: Link, c: u8, alone: bool) -> u8 {
-    let mut reply = [0u8; Link::REPLY];
-    if alone {
-        let one = [c];
-        let r = l.arrival(&one, &mut reply);
-        let a = r.answer;
-        return a.code;
+fn numbers(short: bool) {
+    for k in 0..18 {
+        line(k, short);
     }
-    let two = [c, 0];
-    let r = l.arrival(&two, &mut reply);
-    let a = r.answer;
-    a.code
-}
-
-// A link that is none, for each way of being none; and last one whose free slots hold anything.
-fn bad_link(way: usize) -> Link {
-    let none = Queue::new();
-    let one = none.push(b"A");
-    let two = one.push(b"BC");
-    match way {
-        0 => link_with(3, counting(two, 8), 0, 0),
-        1 => link_with(3, lengthened(two, 1), 0, 0),
-        2 => link_with(2, none, 16, 0),
-        3 => link_with(2, none, 0, 16),
-        4 => link_with(3, none, 0, 0),
-        5 => link_with(2, two, 0, 0),
-        6 => link_with(0, two, 0, 0),
-        7 => link_with(0, none, 1, 0),
-        8 => link_with(0, none, 0, 1),
-        9 => link_with(1, two, 0, 0),
-        10 => link_with(1, none, 1, 0),
-        11 => link_with(1, none, 0, 1),
-        _ => link_with(3, lengthened(two, 2), 0, 0),
-    }
-}
-
-fn bad_name(way: usize) {
-    match way {
-        0 => text(b"a count of 8"),
-        1 => text(b"a queued length of 257"),
-        2 => text(b"base 16"),
-        3 => text(b"expected 16"),
-        4 => text(b"DLDWAIT without a queue"),
-        5 => text(b"DLDATA with a queue"),
-        6 => text(b"DLIDLE with a queue"),
-        7 => text(b"DLIDLE with base 1"),
-        8 => text(b"DLIDLE with expected 1"),
-        9 => text(b"DLRESET with a queue"),
-        10 => text(b"DLRESET with base 1"),
-        11 => text(b"DLRESET with expected 1"),
-        _ => text(b"well formed, with a length of 257 in a free slot"),
-    }
-}
-
-fn link_with(state: usize, q: Queue, base: u8, expected: u8) -> Link {
-    let l = link_in(state);
-    let s = l.state;
-    Link {
-        state: s,
-        queue: q,
-        base: base,
-        expected: expected,
-    }
-}
-
-fn counting(q: Queue, n: usize) -> Queue {
-    let slots = q.slots;
-    Queue {
-        count: n,
-        slots: slots,
-    }
-}
-
-// The queue with a length of 257 in a slot.
-fn lengthened(mut q: Queue, i: usize) -> Queue {
-    if i < 7 {
-        let mut p = q.slots[i];
-        p.len = 257;
-        q.slots[i] = p;
-    }
-    q
-}
-
-// What start, timer, a payload and DACK 0 are answered.
-fn four(l: Link) {
-    code(l, 0);
-    code(l, 1);
-    code(l, 3);
-    code(l, 12);
-    text(b"\n");
-}
-
-fn code(l: Link, event: usize) {
-    let mut reply = [0u8; Link::REPLY];
-    let e = event_at(event);
-    answer(play(l, e, &mut reply));
-}
-
-// The same with a reply buffer that is an octet too short.
-fn four_short(l: Link) {
-    code_short(l, 0);
-    code_short(l, 1);
-    code_short(l, 3);
-    code_short(l, 12);
-    code_short(l, 14);
-    text(b"\n");
-}
-
-fn code_short(l: Link, event: usize) {
-    let mut short = [0u8; 1798];
-    let e = event_at(event);
-    answer(play(l, e, &mut short));
-}
-
-fn answer(r: Outcome) {
-    text(b" ");
-    let a = r.answer;
-    octet(a.code);
-}
-
-fn ill_formed() {
-    text(b"\nstart, timer, payload and DACK 0 at a link with\n");
-    for way in 0..13 {
-        bad_name(way);
-        text(b":");
-        let l = bad_link(way);
-        four(l);
-    }
-}
-
-// Where several refusals apply, the first is given.
-fn order() {
-    text(
-        b"\nthe buffer short, start, timer, payload, DACK 0 and the empty packet, in each state\n",
-    );
-    four_short(link_in(0));
-    four_short(link_in(1));
-    four_short(link_in(2));
-    four_short(link_in(3));
-    text(b"and at a link with a count of 8\n");
-    four_short(bad_link(0));
-    text(b"\na payload of 257, in each state, with a full queue and with a count of 8\n");
-    over(link_in(0));
-    over(link_in(1));
-    over(link_in(2));
-    over(link_in(3));
-    over(full());
-    over(bad_link(0));
-    text(b"\n");
-}
-
-fn over(l: Link) {
-    let mut reply = [0u8; Link::REPLY];
-    let long = [0u8; 257];
-    answer(l.payload(&long, &mut reply));
-}
-
-// A link with seven payloads, the first with number 14.
-fn full() -> Link {
-    let one = Queue::new().push(b"");
-    let seven = with_two(with_two(with_two(one)));
-    link_with(3, seven, 14, 0)
-}
-
-fn with_two(q: Queue) -> Queue {
-    q.push(b"a").push(b"bcdefghi")
-}
-
-fn full_queue() {
-    text(b"\nseven payloads queued, an eighth");
-    let l = full();
-    queue_event(l, b"", true);
-    text(b"DACK 5");
-    queue_event(l, b"\x55", false);
-    text(b"DACK 4");
-    queue_event(l, b"\x54", false);
-    text(b"DACK 6");
-    queue_event(l, b"\x56", false);
-    text(b"timer");
-    queue_timer(l);
-}
-
-fn queue_event(l: Link, octets: &[u8], down: bool) {
-    let mut reply = [0u8; Link::REPLY];
-    if down {
-        show(l.payload(octets, &mut reply), &reply);
-    } else {
-        show(l.arrival(octets, &mut reply), &reply);
-    }
-}
-
-fn queue_timer(l: Link) {
-    let mut reply = [0u8; Link::REPLY];
-    show(l.timer(&mut reply), &reply);
-}
-
-// The longest payload, and packets of the longest length and one more.
-fn longest() {
-    let octets = [64u8; 258];
-    let l = link_with(2, Queue::new(), 0, 0);
-    text(b"\npayload of 256");
-    queue_event(l, &octets[..256], true);
-    text(b"DATA with 256 octets");
-    queue_event(l, &octets[..257], false);
-    text(b"DATA with 257 octets");
-    queue_event(l, &octets, false);
-}
-
-// The payload that an answer shows of its packet.
-fn delivered() {
-    text(b"\npayloads delivered:");
-    part(b"\x4fxyz");
-    part(b"\x4f");
-    part(b"\x4exyz");
-    part(b"\x10");
-    text(b"\n");
-}
-
-fn part(packet: &[u8]) {
-    let mut reply = [0u8; Link::REPLY];
-    let l = link_in(2);
-    let r = l.arrival(packet, &mut reply);
-    let a = r.answer;
-    text(b" [");
-    text(a.payload(packet));
-    text(b"]");
 }
 
 fn main() {
@@ -492,14 +408,14 @@ fn main() {
     rows(1);
     rows(2);
     rows(3);
-    controls(0, true);
-    controls(1, true);
-    controls(2, true);
-    controls(3, true);
-    controls(3, false);
-    ill_formed();
-    order();
-    full_queue();
-    longest();
-    delivered();
+    rows(4);
+    text(b"\nthe same events, numbers alone\n");
+    numbers(false);
+    text(b"\nwith a reply buffer of 1798\n");
+    numbers(true);
+    controls(0, 1);
+    controls(1, 1);
+    controls(2, 1);
+    controls(3, 1);
+    controls(3, 2);
 }

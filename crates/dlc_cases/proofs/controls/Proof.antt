@@ -6,10 +6,10 @@ use Rattle.dlc_cases.proofs.controls.Statement.{statement}
 use Rattle.dlc_cases.proofs.controls.Tie as tie
 
 abbrev Inv-loop : tie.InvT-loop
-Inv-loop state alone l high₀ high = Unit {0}
+Inv-loop k len high₀ high = Unit {0}
 
 abbrev μ-loop : tie.MeasureT-loop
-μ-loop state alone l high₀ high = 16 - high
+μ-loop k len high₀ high = 16 - high
 
 slice-aggregate-text : tie.Need-slice-aggregate-text Inv-loop μ-loop
 slice-aggregate-text c = search needs
@@ -17,17 +17,17 @@ slice-aggregate-text c = search needs
 text-requires : tie.Need-text-requires Inv-loop μ-loop
 text-requires c κs = tt
 
-link-in-requires : tie.Need-link-in-requires Inv-loop μ-loop
-link-in-requires c κs = tt
-
-state-name-requires : tie.Need-state-name-requires Inv-loop μ-loop
-state-name-requires c κs = tt
+number-requires : tie.Need-number-requires Inv-loop μ-loop
+number-requires c κs = tt
 
 slice-aggregate-text-2 : tie.Need-slice-aggregate-text-2 Inv-loop μ-loop
 slice-aggregate-text-2 c = search needs
 
 text-requires-2 : tie.Need-text-requires-2 Inv-loop μ-loop
 text-requires-2 c κs = tt
+
+name-requires : tie.Need-name-requires Inv-loop μ-loop
+name-requires c κs = tt
 
 slice-aggregate-text-3 : tie.Need-slice-aggregate-text-3 Inv-loop μ-loop
 slice-aggregate-text-3 c = search needs
@@ -38,8 +38,8 @@ text-requires-3 c κs = tt
 loop-holds : tie.Need-loop-holds Inv-loop μ-loop
 loop-holds c = tt
 
-control-line-requires : tie.Need-control-line-requires Inv-loop μ-loop
-control-line-requires c κs = tt
+nibble-requires : tie.Need-nibble-requires Inv-loop μ-loop
+nibble-requires c κs = tt
 
 add-high : tie.Need-add-high Inv-loop μ-loop
 add-high c = search needs
@@ -61,14 +61,14 @@ controls-spec =
     μ-loop
     slice-aggregate-text
     text-requires
-    link-in-requires
-    state-name-requires
+    number-requires
     slice-aggregate-text-2
     text-requires-2
+    name-requires
     slice-aggregate-text-3
     text-requires-3
     loop-holds
-    control-line-requires
+    nibble-requires
     add-high
     loop-less
     loop-again

@@ -1,4 +1,4 @@
--- `octets`: a loop of eight turns. Assumes nothing.
+-- `octets`: a loop of nine turns. Assumes nothing.
 use Prim.Native.Nat.{_-_}
 use native.Mathlib.Omega.{arith}
 use borrow.Author.Needs.{needs}
@@ -9,7 +9,7 @@ abbrev Inv-loop : tie.InvT-loop
 Inv-loop s at k i₀ t6 t7 i = Unit {0}
 
 abbrev μ-loop : tie.MeasureT-loop
-μ-loop s at k i₀ t6 t7 i = 8 - i
+μ-loop s at k i₀ t6 t7 i = 9 - i
 
 loop-holds : tie.Need-loop-holds Inv-loop μ-loop
 loop-holds c = tt
@@ -29,6 +29,12 @@ shared-slice-read-hex c = search needs
 hex-requires : tie.Need-hex-requires Inv-loop μ-loop
 hex-requires c κs = tt
 
+slice-aggregate-text-2 : tie.Need-slice-aggregate-text-2 Inv-loop μ-loop
+slice-aggregate-text-2 c = search needs
+
+text-requires-2 : tie.Need-text-requires-2 Inv-loop μ-loop
+text-requires-2 c κs = tt
+
 add-i : tie.Need-add-i Inv-loop μ-loop
 add-i c = search needs
 
@@ -38,17 +44,8 @@ loop-less c = search needs
 loop-again : tie.Need-loop-again Inv-loop μ-loop
 loop-again c = tt
 
-slice-aggregate-text-2 : tie.Need-slice-aggregate-text-2 Inv-loop μ-loop
-slice-aggregate-text-2 c = search needs
-
-text-requires-2 : tie.Need-text-requires-2 Inv-loop μ-loop
-text-requires-2 c κs = tt
-
 returns : tie.Need-returns Inv-loop μ-loop
 returns c = search needs
-
-returns-2 : tie.Need-returns-2 Inv-loop μ-loop
-returns-2 c = search needs
 
 pub octets-spec : {M : Type 1} → statement M
 octets-spec =
@@ -62,10 +59,9 @@ octets-spec =
     text-requires
     shared-slice-read-hex
     hex-requires
+    slice-aggregate-text-2
+    text-requires-2
     add-i
     loop-less
     loop-again
-    slice-aggregate-text-2
-    text-requires-2
-    returns
-    returns-2)
+    returns)

@@ -1,15 +1,15 @@
--- `control_line`: a loop of sixteen turns. Assumes nothing.
+-- `nibble`: a loop of sixteen turns. Assumes nothing.
 use Prim.Native.Nat.{_-_}
 use native.Mathlib.Omega.{arith}
 use borrow.Author.Needs.{needs}
-use Rattle.dlc_cases.proofs.control_line.Statement.{statement}
-use Rattle.dlc_cases.proofs.control_line.Tie as tie
+use Rattle.dlc_cases.proofs.nibble.Statement.{statement}
+use Rattle.dlc_cases.proofs.nibble.Tie as tie
 
 abbrev Inv-loop : tie.InvT-loop
-Inv-loop l high alone low₀ t6 t7 low = Unit {0}
+Inv-loop k len high low₀ t6 t7 low = Unit {0}
 
 abbrev μ-loop : tie.MeasureT-loop
-μ-loop l high alone low₀ t6 t7 low = 16 - low
+μ-loop k len high low₀ t6 t7 low = 16 - low
 
 loop-holds : tie.Need-loop-holds Inv-loop μ-loop
 loop-holds c = tt
@@ -20,17 +20,17 @@ slice-aggregate-text c = search needs
 text-requires : tie.Need-text-requires Inv-loop μ-loop
 text-requires c κs = tt
 
-nibble-requires : tie.Need-nibble-requires Inv-loop μ-loop
-nibble-requires c κs = tt
+sixteen-requires : tie.Need-sixteen-requires Inv-loop μ-loop
+sixteen-requires c κs = tt
 
 wrapping-add-u8-requires : tie.Need-wrapping-add-u8-requires Inv-loop μ-loop
 wrapping-add-u8-requires c κs = tt
 
-control-requires : tie.Need-control-requires Inv-loop μ-loop
-control-requires c κs = tt
+event-of-requires : tie.Need-event-of-requires Inv-loop μ-loop
+event-of-requires c κs = tt
 
-octet-requires : tie.Need-octet-requires Inv-loop μ-loop
-octet-requires c κs = tt
+run-requires : tie.Need-run-requires Inv-loop μ-loop
+run-requires c κs = tt
 
 add-low : tie.Need-add-low Inv-loop μ-loop
 add-low c = search needs
@@ -50,8 +50,8 @@ text-requires-2 c κs = tt
 returns : tie.Need-returns Inv-loop μ-loop
 returns c = search needs
 
-pub control-line-spec : {M : Type 1} → statement M
-control-line-spec =
+pub nibble-spec : {M : Type 1} → statement M
+nibble-spec =
     tie.close
     (tie.spec
     Inv-loop
@@ -59,10 +59,10 @@ control-line-spec =
     loop-holds
     slice-aggregate-text
     text-requires
-    nibble-requires
+    sixteen-requires
     wrapping-add-u8-requires
-    control-requires
-    octet-requires
+    event-of-requires
+    run-requires
     add-low
     loop-less
     loop-again
