@@ -1,5 +1,5 @@
 // One end of a DLC link, by value: each event takes a link and gives it back with an answer.
-// Here: the types, the constructor, and the rows of the step table; the four events are in events.rt.
+// Here: the types, the constructor, and the rows of the step table; the four events are in events.rt, what a well-formed link is in form.rt.
 // Definitions: specs/ (Model: a link as the paper has it; Events: the step table; Calls: what each call promises).
 ghost use mathlib.Core.Path.{_≡_};
 ghost use mathlib.Core.Bool.{true, false, cond};
@@ -10,12 +10,13 @@ ghost use lib.Dec.{eqb};
 ghost use Rattle.dlc_packet.specs.Numbers.{modulus, distance};
 ghost use Rattle.dlc_packet.specs.Packet.{maxPayload};
 ghost use Rattle.dlc_queue.specs.Queue.{slots, replySize};
-ghost use Rattle.dlc.specs.Model.{stateFits, wellFormed, view, fresh};
+ghost use Rattle.dlc.specs.Model.{wellFormed, view, fresh};
 ghost use Rattle.dlc.specs.Events.{isOpen, effect, cleared, resetAckStep, judged, dataStep, without, acknowledged, dackStep, timerStep, withPayload};
 ghost use Rattle.dlc.specs.Calls.{given, Returns, Meets, OneSent, deliveredPart};
 use dlc_queue::Queue;
 
 mod events;
+mod form;
 
 // The numbers that events answer; all but DONE and OTHER_NUMBER are refusals, which change nothing.
 pub const DONE: u8 = 0;
@@ -87,28 +88,6 @@ impl Link {
             queue: q,
             base: 0,
             expected: 0,
-        }
-    }
-
-    // Whether this is a link: what the queue, the numbers and the state may be, and how they go together.
-    pub fn well_formed(self) -> bool
-        ensures { λ r. ⌜ r ≡ wellFormed self ⌝ }
-    {
-        let q = self.queue;
-        if q.well_formed() {
-            let base = self.base;
-            let expected = self.expected;
-            if dlc_packet::MODULUS <= base {
-                return false;
-            }
-            if dlc_packet::MODULUS <= expected {
-                return false;
-            }
-            let s = self.state;
-            let n = q.count;
-            state_fits(s, n, base, expected)
-        } else {
-            false
         }
     }
 
@@ -282,29 +261,6 @@ impl Answer {
             return &packet[..0];
         }
         &packet[..0]
-    }
-}
-
-// Whether a state goes with a queue of n payloads and these numbers.
-fn state_fits(s: State, n: usize, base: u8, expected: u8) -> bool
-    ensures { λ r. ⌜ r ≡ stateFits s n base expected ⌝ }
-{
-    match s {
-        State::Idle => at_rest(n, base, expected),
-        State::Reset => at_rest(n, base, expected),
-        State::Data => n == 0,
-        State::Wait => 0 < n,
-    }
-}
-
-// An empty queue and numbers 0.
-fn at_rest(n: usize, base: u8, expected: u8) -> bool
-    ensures { λ r. ⌜ r ≡ stateFits State.Idle n base expected ⌝ }
-{
-    if n == 0 {
-        if base == 0 { expected == 0 } else { false }
-    } else {
-        false
     }
 }
 

@@ -1,9 +1,9 @@
--- `at_rest`: three tests in turn. Assumes nothing.
+-- `form::at_rest`: three tests in turn. Assumes nothing.
 use borrow.Author.Tests.{eq-eqb, ne-eqb}
 use native.Mathlib.Omega.{arith}
 use borrow.Author.Needs.{needs}
-use Rattle.dlc.proofs.at_rest.Statement.{statement}
-use Rattle.dlc.proofs.at_rest.Tie as tie
+use Rattle.dlc.proofs.form.at_rest.Statement.{statement}
+use Rattle.dlc.proofs.form.at_rest.Tie as tie
 
 returns : tie.Need-returns
 returns c = simp (eq-eqb _ _ (c .before .if1 .taken), eq-eqb _ _ (c .if2 .taken))

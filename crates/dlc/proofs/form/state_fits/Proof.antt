@@ -1,8 +1,8 @@
--- `state_fits`: by the state. Assumes nothing.
+-- `form::state_fits`: by the state. Assumes nothing.
 use native.Mathlib.Omega.{arith}
 use borrow.Author.Needs.{needs}
-use Rattle.dlc.proofs.state_fits.Statement.{statement}
-use Rattle.dlc.proofs.state_fits.Tie as tie
+use Rattle.dlc.proofs.form.state_fits.Statement.{statement}
+use Rattle.dlc.proofs.form.state_fits.Tie as tie
 
 enum-told : tie.Need-enum-told
 enum-told c = search needs
