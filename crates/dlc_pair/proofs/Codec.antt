@@ -9,6 +9,7 @@ use lib.Seq.{take-append-seam, drop-append-seam}
 use lib.Dec.{ltb, eqb}
 use borrow.Author.Tests.{le-ltb, eq-eqb, ne-eqb}
 use Rattle.dlc_packet.specs.declared.Kind.the-variants.{Data, Dack}
+use Rattle.dlc_packet.specs.Packet.{resetOctet, resetAckOctet, dataOctet, dackOctet}
 use Rattle.dlc.specs.Limits.{modulus, maxPayload, dataPacket, dackPacket, dataPackets, kindOf}
 use Rattle.window.specs.Packets.{Packet, dataPdu, dackPdu, countData, countDack, numbered}
 use Rattle.window.proofs.InFlight.{All}
@@ -25,17 +26,17 @@ Sound (dataPdu x p) = (x < modulus) × (length p ≤ maxPayload)
 Sound (dackPdu x) = x < modulus
 
 -- ---- the kind of a packet, by its octets
-data-is-data : (x : ℕ) → x < modulus → eqb ((64 + x) / modulus) 4 ≡ true
-data-is-data x h = eq-eqb ((64 + x) / 16) 4 (omega arith)
+data-is-data : (x : ℕ) → x < modulus → eqb ((dataOctet + x) / modulus) (dataOctet / modulus) ≡ true
+data-is-data x h = eq-eqb ((dataOctet + x) / modulus) (dataOctet / modulus) (omega arith)
 
-data-not-dack : (x : ℕ) → x < modulus → eqb ((64 + x) / modulus) 5 ≡ false
-data-not-dack x h = ne-eqb ((64 + x) / 16) 5 (λ e. omega (arith, e))
+data-not-dack : (x : ℕ) → x < modulus → eqb ((dataOctet + x) / modulus) (dackOctet / modulus) ≡ false
+data-not-dack x h = ne-eqb ((dataOctet + x) / modulus) (dackOctet / modulus) (λ e. omega (arith, e))
 
-dack-is-dack : (x : ℕ) → x < modulus → eqb ((80 + x) / modulus) 5 ≡ true
-dack-is-dack x h = eq-eqb ((80 + x) / 16) 5 (omega arith)
+dack-is-dack : (x : ℕ) → x < modulus → eqb ((dackOctet + x) / modulus) (dackOctet / modulus) ≡ true
+dack-is-dack x h = eq-eqb ((dackOctet + x) / modulus) (dackOctet / modulus) (omega arith)
 
-dack-not-data : (x : ℕ) → x < modulus → eqb ((80 + x) / modulus) 4 ≡ false
-dack-not-data x h = ne-eqb ((80 + x) / 16) 4 (λ e. omega (arith, e))
+dack-not-data : (x : ℕ) → x < modulus → eqb ((dackOctet + x) / modulus) (dataOctet / modulus) ≡ false
+dack-not-data x h = ne-eqb ((dackOctet + x) / modulus) (dataOctet / modulus) (λ e. omega (arith, e))
 
 abbrev pub dataBit : Packet → Bool
 dataBit (dataPdu x p) = true
@@ -57,14 +58,14 @@ pub kindOf-data : (x : ℕ) (p : Octets) → Sound (dataPdu x p) → kindOf (dat
 kindOf-data x p h =
     let some : eqb (suc (length p)) 0 ≡ false = ne-eqb (suc (length p)) 0 (λ e. omega (arith, e)) in
     let short : ltb (maxPayload + 1) (suc (length p)) ≡ false = le-ltb (maxPayload + 1) (suc (length p)) (omega (arith, h .1)) in
-    let low : (64 + x) % modulus ≡ x = omega (arith, h .0) in
+    let low : (dataOctet + x) % modulus ≡ x = omega (arith, h .0) in
     simp (some, short, data-is-data x (h .0), low)
 
 pub kindOf-dack : (x : ℕ) → x < modulus → kindOf (dackPacket x) ≡ Dack x
 kindOf-dack x h =
-    let a : eqb (80 + x) 16 ≡ false = ne-eqb (80 + x) 16 (λ e. omega (arith, e)) in
-    let b : eqb (80 + x) 32 ≡ false = ne-eqb (80 + x) 32 (λ e. omega (arith, e)) in
-    let low : (80 + x) % modulus ≡ x = omega arith in
+    let a : eqb (dackOctet + x) resetOctet ≡ false = ne-eqb (dackOctet + x) resetOctet (λ e. omega (arith, e)) in
+    let b : eqb (dackOctet + x) resetAckOctet ≡ false = ne-eqb (dackOctet + x) resetAckOctet (λ e. omega (arith, e)) in
+    let low : (dackOctet + x) % modulus ≡ x = omega arith in
     simp (dack-not-data x h, a, b, dack-is-dack x h, low)
 
 -- ---- counts

@@ -5,6 +5,7 @@ use mathlib.Core.List.{List, [], _∷_}
 use lib.ListN.{take, drop}
 use lib.Dec.{eqb}
 use Rattle.window.specs.Sides.{Both}
+use Rattle.dlc_packet.specs.Packet.{dataOctet, dackOctet}
 use Rattle.dlc.specs.Limits.{modulus}
 use Rattle.dlc.specs.declared.Link.{Link}
 
@@ -19,12 +20,12 @@ Packets = List (List ℕ)
 -- "4x DATA"
 abbrev pub isData : Octets → Bool
 isData [] = false
-isData (c ∷ p) = eqb (c / modulus) 4
+isData (c ∷ p) = eqb (c / modulus) (dataOctet / modulus)
 
 -- "5x DACK"
 abbrev pub isDack : Octets → Bool
 isDack [] = false
-isDack (c ∷ p) = eqb (c / modulus) 5
+isDack (c ∷ p) = eqb (c / modulus) (dackOctet / modulus)
 
 abbrev pub one : Bool → ℕ
 one true = 1

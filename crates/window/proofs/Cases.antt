@@ -5,11 +5,12 @@ use mathlib.Core.Bool.{true, false}
 use mathlib.Core.List.{[], _∷_}
 use mathlib.Core.Option.{some}
 use native.Mathlib.Omega.{arith}
+use lib.ListN.{length}
 use Rattle.dlc_packet.specs.Numbers.{dackNumber, distance}
 use Rattle.window.specs.Sides.{left, right, Both, eraseAt}
 use Rattle.window.specs.Packets.{dataPdu, dackPdu, numbered}
 use Rattle.window.specs.Ends.{Rules, Sender, End, applyDack}
-use Rattle.window.specs.Events.{offer, timeout, receive, start, loseAt, run, Drained}
+use Rattle.window.specs.Events.{offer, timeout, receive, lose, start, loseAt, run, Drained}
 use Rattle.window.specs.Claim.{exchange}
 
 abbrev rules : Rules
@@ -69,6 +70,22 @@ once-answered = refl
 
 pub twice-delivered : sentTwice .right .receiver .delivered ≡ (7 ∷ []) ∷ []
 twice-delivered = refl
+
+-- the first of two is lost: DATA 1 is not delivered where 0 is expected, and is answered with DACK 0
+abbrev firstLost : Both End
+firstLost = run rules
+    (record { side = left; act = offer true (1 ∷ []) }
+    ∷ record { side = left; act = offer true (2 ∷ []) }
+    ∷ record { side = left; act = timeout true }
+    ∷ record { side = left; act = lose 0 }
+    ∷ record { side = right; act = receive true }
+    ∷ []) start
+
+pub gap-not-delivered : length (firstLost .right .receiver .delivered) ≡ 0
+gap-not-delivered = refl
+
+pub gap-answered : firstLost .right .line ≡ dackPdu 0 ∷ []
+gap-answered = refl
 
 -- while the DACK is on the way the line is not drained
 pub not-drained : Drained sentOnce → ⊥
