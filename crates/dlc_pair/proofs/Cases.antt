@@ -4,6 +4,9 @@ use mathlib.Core.Path.{_≡_, refl}
 use mathlib.Core.Bool.{Bool, true, false}
 use mathlib.Core.List.{List, [], _∷_}
 use mathlib.Core.Option.{some}
+use native.Mathlib.Omega.{arith}
+use lib.Dec.{lit≤}
+use lib.ListN.{replicate}
 use Rattle.dlc.specs.declared.Link.{Link}
 use Rattle.dlc.specs.declared.Answer.{Answer}
 use Rattle.dlc.specs.declared.Outcome.{Outcome}
@@ -12,7 +15,7 @@ use Rattle.dlc.specs.Limits.{dataPacket, dackPacket, resetPacket}
 use Rattle.window.specs.Sides.{left, right}
 use Rattle.dlc_pair.specs.World.{Octets, isData, isDack, count, packetsIn, World, freshEnd, initial}
 use Rattle.dlc_pair.specs.History.{timer, arrival, Event, History, called, relined, acceptedBy, deliveredBy, lostBy, lostAt, Drained, TimerWaits}
-use Rattle.dlc_pair.specs.Progress.{exchange, recovery}
+use Rattle.dlc_pair.specs.Progress.{Enough, exchange, recovery}
 
 -- ---- packets
 -- 4x is DATA whatever x is, 5x is DACK, RESET is neither
@@ -88,3 +91,10 @@ one-exchange b = refl
 
 pub two-timers : (b : Octets) → recovery b 0 ≡ record { side = left; act = timer b } ∷ record { side = right; act = timer b } ∷ []
 two-timers b = refl
+
+-- a reply buffer of 1,799 octets is enough, one of 1,798 is not
+pub enough : Enough (replicate 1799 0)
+enough = lit≤ tt
+
+pub not-enough : Enough (replicate 1798 0) → ⊥
+not-enough h = omega (arith, h)
