@@ -3,13 +3,14 @@
 use Prim.Native.Nat.{ℕ, zero, suc, _+_, _*_}
 use mathlib.Core.Path.{_≡_, refl, sym, ap, _∙_}
 use mathlib.Core.List.{List, [], _∷_, _++_, map}
+use lib.Dec.{T}
 use lib.ListN.{length, replicate}
 use Rattle.dlc.specs.declared.Link.{Link}
 use Rattle.dlc.specs.Limits.{slots, replySize}
 use Rattle.dlc.specs.Model.{Model, view, opened}
 use Rattle.window.specs.Sides.{Side, left, right}
 use Rattle.window.specs.Events.{start as packetStart}
-use Rattle.window.proofs.Deciding.{timerWaits-true}
+use Rattle.window.proofs.Deciding.{timerWaits, timerWaits-true}
 use Rattle.dlc_pair.specs.World.{Octets, Packets, dataSent, initial}
 use Rattle.dlc_pair.specs.History.{Act, payload, timer, arrival, loss, Event, after, History, final, TimerWaits}
 use Rattle.dlc_pair.specs.Rules.{rules}
@@ -22,6 +23,14 @@ arrival-nothing l l′ before = refl
 
 pub loss-nothing : (l l′ : Link) (n : ℕ) → after (loss n) (initial l l′) tt ≡ initial l l′
 loss-nothing l l′ n = refl
+
+-- ---- what a run gives, of every history of its events
+module _ (l l′ : Link) (e : view l ≡ opened) (e′ : view l′ ≡ opened) (es : List Event) (h : History es (initial l l′)) where
+  followed : BothFollow (final es (initial l l′) h) (runOf es packetStart)
+  followed = run-follows es (follow-initial l l′ e e′) h
+
+  waited : (d : Side) → T (timerWaits rules d (map eventOf es) packetStart) → TimerWaits d es (initial l l′) h
+  waited d t = timerWaits-back d es (follow-initial l l′ e e′) h (timerWaits-true rules d (map eventOf es) packetStart t)
 
 -- ---- events
 abbrev buffer : Octets
@@ -77,14 +86,14 @@ pub record Worked (l l′ : Link) (h : History workedEvents (initial l l′)) : 
 
 pub worked : (l l′ : Link) → view l ≡ opened → view l′ ≡ opened → (h : History workedEvents (initial l l′)) → Worked l l′ h
 worked l l′ e e′ h =
-    let f : BothFollow (final workedEvents (initial l l′) h) (runOf workedEvents packetStart) = run-follows workedEvents (follow-initial l l′ e e′) h in
+    let f = followed l l′ e e′ workedEvents h in
     record {
       accepted = f .left .accepted;
       delivered = f .right .delivered;
       sent = f .left .sent;
       lost = f .left .lost;
       base = ap (λ (m : Model). m .base) (f .left .model);
-      waits = timerWaits-back left workedEvents (follow-initial l l′ e e′) h (timerWaits-true rules left (map eventOf workedEvents) packetStart tt);
+      waits = waited l l′ e e′ workedEvents h left tt;
     }
 
 -- ---- seven are sent and the first is lost; six are answered by 25, and seven sent again: the bound is met, so seven cannot be lowered
@@ -102,10 +111,10 @@ pub record Tight (l l′ : Link) (h : History tightEvents (initial l l′)) : Ty
 
 pub tight : (l l′ : Link) → view l ≡ opened → view l′ ≡ opened → (h : History tightEvents (initial l l′)) → Tight l l′ h
 tight l l′ e e′ h =
-    let f : BothFollow (final tightEvents (initial l l′) h) (runOf tightEvents packetStart) = run-follows tightEvents (follow-initial l l′ e e′) h in
+    let f = followed l l′ e e′ tightEvents h in
     record {
       bound = f .left .sent ∙ sym (λ i. length (f .left .accepted i) + slots * f .left .lost i);
-      waits = timerWaits-back left tightEvents (follow-initial l l′ e e′) h (timerWaits-true rules left (map eventOf tightEvents) packetStart tt);
+      waits = waited l l′ e e′ tightEvents h left tt;
     }
 
 -- ---- both ends send. The left end's timer is called twice while the right end's DATA is on the line, and its premise holds: it asks for none of
@@ -136,7 +145,7 @@ pub record Duplex (l l′ : Link) (h : History duplexEvents (initial l l′)) : 
 
 pub duplex : (l l′ : Link) → view l ≡ opened → view l′ ≡ opened → (h : History duplexEvents (initial l l′)) → Duplex l l′ h
 duplex l l′ e e′ h =
-    let f : BothFollow (final duplexEvents (initial l l′) h) (runOf duplexEvents packetStart) = run-follows duplexEvents (follow-initial l l′ e e′) h in
+    let f = followed l l′ e e′ duplexEvents h in
     record {
       leftToRight = f .right .delivered;
       rightToLeft = f .left .delivered;
@@ -144,6 +153,6 @@ duplex l l′ e e′ h =
       leftLost = f .left .lost;
       rightSent = f .right .sent;
       rightLost = f .right .lost;
-      leftWaits = timerWaits-back left duplexEvents (follow-initial l l′ e e′) h (timerWaits-true rules left (map eventOf duplexEvents) packetStart tt);
-      rightWaits = timerWaits-back right duplexEvents (follow-initial l l′ e e′) h (timerWaits-true rules right (map eventOf duplexEvents) packetStart tt);
+      leftWaits = waited l l′ e e′ duplexEvents h left tt;
+      rightWaits = waited l l′ e e′ duplexEvents h right tt;
     }
