@@ -71,7 +71,8 @@ well-formed a f =
 
 pub view-linkOf : (a : Peer) → Fits a → view (linkOf a) ≡ modelOf a
 view-linkOf a f =
-    let q : map octetsOf (used (queueOf (a .sender .queue))) ≡ a .sender .queue = ap (map octetsOf) (used-queueOf (a .sender .queue)) ∙ octets-slots (a .sender .queue) in
+    let q : map octetsOf (used (queueOf (a .sender .queue))) ≡ a .sender .queue =
+    ap (map octetsOf) (used-queueOf (a .sender .queue)) ∙ octets-slots (a .sender .queue) in
     λ i. record { ok = well-formed a f i; state = stateOf (a .sender .queue); queue = q i; base = a .sender .base; expected = a .receiver .expected }
 
 -- the arrays have the lengths that the code's types give them
@@ -174,7 +175,8 @@ module _ {w : World} {s : Both Peer} (f : BothFollow w s) (before : Octets) wher
       (data-possible (s .left) (f .left .fits) p (tooShort before) (eqb x (s .left .receiver .expected)))
   front-given (dackPdu x ∷ ks) h =
       reply-at (λ (m : Model). arrivalOf m (encode (dackPdu x)) (length before)) (arrivalOf-dack (s .left) x (length before) (h .0))
-      (dack-possible (s .left) (f .left .fits) (distance (s .left .sender .base) x) (tooShort before) (acknowledges (distance (s .left .sender .base) x) (s .left .sender .queue)))
+      (dack-possible (s .left) (f .left .fits) (distance (s .left .sender .base) x) (tooShort before)
+      (acknowledges (distance (s .left .sender .base) x) (s .left .sender .queue)))
 
 given : (a : Act) {w : World} {s : Both Peer} → BothFollow w s → Given a w
 given (payload p before) {w} {s} f =
@@ -185,8 +187,10 @@ given (timer before) {w} {s} f =
     reply-at f before (λ (m : Model). timerOf m (length before)) (timerOf-open (s .left) (length before))
     (timer-possible (s .left) (f .left .fits) (tooShort before) (ltb 0 (length (s .left .sender .queue))))
 given (start before) {w} {s} f =
-    reply-at f before (λ (m : Model). startOf m (length before)) (startOf-open (s .left) (length before)) (start-possible (s .left) (f .left .fits) (tooShort before))
-given (arrival before) {w} {s} f = subst (λ (l : Packets). GivenFront l (w .left) before) (sym (f .right .line)) (front-given f before (s .right .line) (f .right .sound))
+    reply-at f before (λ (m : Model). startOf m (length before)) (startOf-open (s .left) (length before))
+    (start-possible (s .left) (f .left .fits) (tooShort before))
+given (arrival before) {w} {s} f =
+    subst (λ (l : Packets). GivenFront l (w .left) before) (sym (f .right .line)) (front-given f before (s .right .line) (f .right .sound))
 given (loss n) f = tt
 
 given-at : (d : Side) (a : Act) {w : World} {s : Both Peer} → BothFollow w s → GivenAt d a w

@@ -93,7 +93,8 @@ stands-relined s l n h = record {
 
 -- an arrival of a packet that is no DATA and no DACK, and stands alone on the line
 module _ {w : World} {m m′ : Model} {ks : Packets} (q : Octets) (s : Stands (w .left) m ks) (s′ : Stands (w .right) m′ (q ∷ [])) (before : Octets) {d : Effect}
-    (e : arrivalOf m q (length before) ≡ d) (silent : count isData (d .packets) ≡ 0) (code : d .code ≢ illFormed) (noData : isData q ≡ false) (noDack : isDack q ≡ false) where
+    (e : arrivalOf m q (length before) ≡ d) (silent : count isData (d .packets) ≡ 0) (code : d .code ≢ illFormed)
+    (noData : isData q ≡ false) (noDack : isDack q ≡ false) where
   stands-front : (g : GivenFront (q ∷ []) (w .left) before)
       → Stands (arrived (q ∷ []) before w g .left) (d .after) (ks ++ d .packets) × Stands (arrived (q ∷ []) before w g .right) m′ []
   stands-front g =
@@ -164,13 +165,15 @@ module _ (l l′ : Link) (e : view l ≡ fresh) (e′ : view l′ .ok ≡ true) 
 
         -- RESET has arrived at the right end, which is open now and has sent RESET_ACK
         after-reset : Stands (answered .right) (cleared (view l′) .after) (resetAckPacket ∷ []) × Stands (answered .left) resetting []
-        after-reset = stands-arrived resetPacket (stands-fresh l′ refl) after-timer b₃ (arrivalOf-reset (length b₃) h₃ (view l′) e′) refl (λ x. omega (arith, x)) refl refl g₃
+        after-reset = stands-arrived resetPacket (stands-fresh l′ refl) after-timer b₃
+            (arrivalOf-reset (length b₃) h₃ (view l′) e′) refl (λ x. omega (arith, x)) refl refl g₃
 
         -- RESET_ACK has arrived at the left end
         after-ack : (g₄ : GivenAt left (arrival b₄) answered)
             → Stands (afterAt left (arrival b₄) answered g₄ .left) opened [] × Stands (afterAt left (arrival b₄) answered g₄ .right) opened []
         after-ack g₄ =
-            let s = stands-arrived resetAckPacket (after-reset .1) (after-reset .0) b₄ (arrivalOf-resetAck (length b₄) h₄) refl (λ x. omega (arith, x)) refl refl g₄ in
+            let s = stands-arrived resetAckPacket (after-reset .1) (after-reset .0) b₄
+            (arrivalOf-resetAck (length b₄) h₄) refl (λ x. omega (arith, x)) refl refl g₄ in
             (s .0, subst (λ (m : Model). Stands (afterAt left (arrival b₄) answered g₄ .right) m []) (cleared-opened (view l′) e′) (s .1))
 
   -- ---- the theorems
@@ -192,7 +195,8 @@ module _ (l l′ : Link) (e : view l ≡ fresh) (e′ : view l′ .ok ≡ true) 
       let s₃ = after-reset g₁ g₂ g₃ in
       let g₄ : GivenAt left (arrival b₄) w₃ =
       subst (λ (k : Packets). GivenFront k (w₃ .left) b₄) (sym (s₃ .0 .line))
-      (reply-known _ (ap (λ (m : Model). arrivalOf m resetAckPacket (length b₄)) (s₃ .1 .model) ∙ arrivalOf-resetAck (length b₄) h₄) (w₃ .left .link) (emptyLink Data) b₄ view-data refl) in
+      (reply-known _ (ap (λ (m : Model). arrivalOf m resetAckPacket (length b₄)) (s₃ .1 .model) ∙ arrivalOf-resetAck (length b₄) h₄)
+      (w₃ .left .link) (emptyLink Data) b₄ view-data refl) in
       (g₁, (g₂, (g₃, (g₄, tt))))
 
 -- from a world that opening has led to, demand 3 holds

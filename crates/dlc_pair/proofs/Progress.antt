@@ -117,7 +117,8 @@ pub progress : (l l′ : Link) → view l ≡ opened → view l′ ≡ opened �
     → Settled d (final es (initial l l′) h) (final (exchange d b bs cs) (final es (initial l l′) h) more)
 progress l l′ e e′ es h el er d b bs cs hb hbs hcs fewer less more =
     let f : BothFollow (final es (initial l l′) h) (runOf es packetStart) = run-follows es (follow-initial l l′ e e′) h in
-    let queued : length (endAt d (runOf es packetStart) .sender .queue) ≤ length bs = subst (λ (m : Model). length (m .queue) ≤ length bs) (end-follows d f .model) fewer in
+    let queued : length (endAt d (runOf es packetStart) .sender .queue) ≤ length bs =
+    subst (λ (m : Model). length (m .queue) ≤ length bs) (end-follows d f .model) fewer in
     let p = packets-progress rules lawful (map eventOf es) d (line-nil (f .left) el) (line-nil (f .right) er) (length bs) (length cs) queued less in
     settled-follows d f (run-follows (exchange d b bs cs) f more)
     (subst (λ (fs : List PacketEvent). PacketSettled d (runOf es packetStart) (run rules fs (runOf es packetStart))) (sym (exchange-packets d b bs cs hb hbs hcs)) p)

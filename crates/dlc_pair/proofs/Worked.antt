@@ -60,7 +60,8 @@ wholeRound n = offered (payloadsFrom slots n) ++ (at left (timer buffer) ∷ [])
 abbrev lossyRound : List Event
 lossyRound =
     offered (payloadsFrom slots 1)
-    ++ (at left (payload (9 ∷ []) buffer) ∷ at left (payload (9 ∷ []) []) ∷ at left (payload (replicate 257 9) buffer) ∷ at left (timer []) ∷ at left (arrival buffer) ∷ [])
+    ++ (at left (payload (9 ∷ []) buffer) ∷ at left (payload (9 ∷ []) []) ∷ [])
+    ++ (at left (payload (replicate 257 9) buffer) ∷ at left (timer []) ∷ at left (arrival buffer) ∷ [])
     ++ (at left (timer buffer) ∷ at left (loss 2) ∷ at left (loss 50) ∷ [])
     ++ arrivals 6 right ++ arrivals 6 left
     ++ (at left (timer buffer) ∷ at right (arrival []) ∷ [])

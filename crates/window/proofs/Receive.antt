@@ -84,7 +84,8 @@ module _ (r : Rules) (law : Lawful r) {a b : Assumed} (s : Both End) (v : Invari
       n = k - length (v .left .acked)
 
       less : (n ≤ length (s .left .sender .queue))
-          × Flow r a (v .left .acked ++ take n (s .left .sender .queue)) (v .left .reached) (freed n (s .left .sender)) (s .right .receiver) (dataOf (v .left .marks)) (dacksOf g)
+          × Flow r a (v .left .acked ++ take n (s .left .sender .queue)) (v .left .reached) (freed n (s .left .sender)) (s .right .receiver)
+          (dataOf (v .left .marks)) (dacksOf g)
       less = flow-acknowledge r (law .below) flow
 
       bounds : (length (v .left .acked) ≤ k) × (k ≤ length (s .left .sender .accepted)) × (k < length (v .left .acked) + modulus)
