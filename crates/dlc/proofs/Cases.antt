@@ -1,13 +1,12 @@
 -- Worked cases on the step table, by computation. Assumes nothing.
 use mathlib.Core.Path.{_≡_, refl}
 use mathlib.Core.Bool.{true}
-use mathlib.Core.List.{List, [], _∷_}
-use Prim.Native.Nat.{ℕ}
-use Rattle.dlc.specs.declared.State.the-variants.{Idle, Reset, Data, Wait}
-use Rattle.dlc.specs.Limits.{replySize, distance, resetPacket, resetAckPacket, dataPacket, dackPacket}
-use Rattle.dlc.specs.Answers.{done, noEntry, otherNumber, badPacket, notOpen, tooLong}
+use mathlib.Core.List.{[], _∷_}
+use Rattle.dlc.specs.declared.State.the-variants.{Reset, Data, Wait}
+use Rattle.dlc.specs.Limits.{replySize, resetPacket, resetAckPacket, dataPacket, dackPacket}
+use Rattle.dlc.specs.Answers.{done, noEntry, otherNumber, badPacket}
 use Rattle.dlc.specs.Model.{Model, fresh, opened}
-use Rattle.dlc.specs.Events.{Effect, effect, refuse, startOf, timerOf, payloadOf, arrivalOf}
+use Rattle.dlc.specs.Events.{effect, refuse, startOf, timerOf, arrivalOf}
 
 pub reply-size : replySize ≡ 1799
 reply-size = refl

@@ -3,7 +3,6 @@
 use mathlib.Core.Path.{_≡_, sym, _∙_}
 use mathlib.Core.List.{List}
 use Prim.Native.Nat.{ℕ}
-use lib.ListN.{length}
 use Rattle.dlc.specs.declared.Link.{Link}
 use Rattle.dlc.specs.declared.Outcome.{Outcome}
 use Rattle.dlc.specs.Model.{view}

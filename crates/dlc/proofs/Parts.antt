@@ -1,15 +1,15 @@
 -- A well-formed link, part by part. Assumes nothing.
 use Prim.Native.Nat.{ℕ, _<_, _≤_}
-use mathlib.Core.Path.{_≡_, refl, sym, ap, _∙_}
+use mathlib.Core.Path.{_≡_}
 use mathlib.Core.Bool.{Bool, true, false, _&&_, false≢true}
 use mathlib.Core.List.{List}
 use lib.ListN.{length}
 use lib.Dec.{ltb, eqb}
 use mir.Val.{Val}
 use denote.Laws.{Is}
-use borrow.Author.Tests.{lt-ltb, le-ltb, ltb-true, eqb-true}
+use borrow.Author.Tests.{lt-ltb, le-ltb, ltb-true}
 use Rattle.dlc_packet.specs.Numbers.{modulus}
-use Rattle.dlc_queue.specs.Queue.{slots, payloads, formed}
+use Rattle.dlc_queue.specs.Queue.{payloads, formed}
 use Rattle.dlc_queue.proofs.Short.{both}
 use Rattle.dlc_queue.proofs.Shape.{slots-long}
 use Rattle.dlc_queue.proofs.Slots.{formed-count, length-payloads}

@@ -2,10 +2,10 @@
 use Prim.Native.Nat.{ℕ, _<_, _≤_}
 use native.Mathlib.Omega.{arith}
 use mathlib.Core.Path.{_≡_, refl, sym, ap, _∙_}
-use mathlib.Core.Bool.{Bool, true, false, not, _&&_}
+use mathlib.Core.Bool.{Bool, true, false, not}
 use mathlib.Core.List.{List, [], _∷_, _++_}
 use lib.ListN.{length}
-use lib.Dec.{ltb, leb}
+use lib.Dec.{ltb}
 use borrow.Author.Tests.{lt-ltb, le-ltb, le-leb, lt-leb, ltb-false, not-false}
 use Rattle.common.specs.Refusals.{Refusal, guarded}
 use Rattle.dlc_packet.specs.Packet.{maxPayload, kindOf}
@@ -84,13 +84,13 @@ module _ (m : Model) (room c : ℕ) (e : c ≡ answered m room) where
       past = call-passed m room (payloadRefusals m p) (queued m p) c e z
 
       pub payload-tooLong : maxPayload < length p → payloadOf m p room ≡ refuse m tooLong
-      payload-tooLong h = past ∙ rw (lt-ltb _ _ h)
+      payload-tooLong h = past ∙ simp (lt-ltb _ _ h)
 
       pub payload-notOpen : length p ≤ maxPayload → isOpen (m .state) ≡ false → payloadOf m p room ≡ refuse m notOpen
-      payload-notOpen h o = past ∙ rw (le-ltb _ _ h, o)
+      payload-notOpen h o = past ∙ simp (le-ltb _ _ h, o)
 
       pub payload-full : length p ≤ maxPayload → isOpen (m .state) ≡ true → slots ≤ length (m .queue) → payloadOf m p room ≡ refuse m queueFull
-      payload-full h o f = past ∙ rw (le-ltb _ _ h, o, le-leb _ _ f)
+      payload-full h o f = past ∙ simp (le-ltb _ _ h, o, le-leb _ _ f)
 
       pub payload-queued : length p ≤ maxPayload → isOpen (m .state) ≡ true → length (m .queue) < slots → payloadOf m p room ≡ queued m p
-      payload-queued h o f = past ∙ rw (le-ltb _ _ h, o, lt-leb _ _ f)
+      payload-queued h o f = past ∙ simp (le-ltb _ _ h, o, lt-leb _ _ f)

@@ -1,23 +1,21 @@
 -- What the link's own functions make of a view. Assumes nothing.
 use Prim.Native.Nat.{ℕ, zero, suc, _+_, _-_, _<_, _≤_, zero-le}
 use native.Mathlib.Omega.{arith}
-use native.Mathlib.Nat.{lt-irrefl}
-use mathlib.Core.Path.{_≡_, refl, sym, ap, _∙_}
-use mathlib.Core.Bool.{Bool, true, false, cond, _&&_, false≢true}
-use mathlib.Core.List.{List, [], _∷_, _++_}
+use mathlib.Core.Path.{_≡_, refl, sym, _∙_}
+use mathlib.Core.Bool.{true, cond}
+use mathlib.Core.List.{List, [], _∷_}
 use lib.ListN.{length, drop, length-drop}
 use lib.Dec.{ltb, eqb}
-use borrow.Author.Tests.{lt-ltb, eq-eqb, ne-eqb, eqb-true}
-use Rattle.dlc_packet.specs.Numbers.{modulus, advance}
+use borrow.Author.Tests.{lt-ltb, ne-eqb}
+use Rattle.dlc_packet.specs.Numbers.{advance}
 use Rattle.dlc_packet.specs.Packet.{maxPayload}
 use Rattle.dlc_queue.specs.declared.Queue.{Queue}
 use Rattle.dlc_queue.specs.Queue.{slots, payloads, formed, Pushed, Removed}
-use Rattle.dlc_queue.proofs.Short.{both}
 use Rattle.dlc_queue.proofs.Slots.{is-formed, push-count, push-payloads, remove-count, remove-payloads, remove-formed}
 use Rattle.dlc.specs.declared.State.{State}
-use Rattle.dlc.specs.declared.State.the-variants.{Idle, Reset, Data, Wait}
+use Rattle.dlc.specs.declared.State.the-variants.{Idle, Data, Wait}
 use Rattle.dlc.specs.declared.Link.{Link}
-use Rattle.dlc.specs.Model.{Model, view, fresh, wellFormed, stateFits}
+use Rattle.dlc.specs.Model.{view, fresh, wellFormed, stateFits}
 use Rattle.dlc.specs.Events.{isOpen, inState, expectNext, without, stateOf, withPayload}
 use Rattle.dlc.proofs.Parts.{Parts, parts, whole, open-fits}
 

@@ -7,7 +7,7 @@
 -- where the very link that came is given back; no answer depends on them (proofs/FreeSlots.antt).
 use Prim.Native.Nat.{ℕ}
 use mathlib.Core.Path.{_≡_}
-use mathlib.Core.Bool.{Bool, true, false, cond}
+use mathlib.Core.Bool.{Bool, true, cond}
 use mathlib.Core.List.{List, [], _∷_, flatten}
 use lib.ListN.{length, drop}
 use Rattle.common.specs.Buffer.{withFront}

@@ -3,7 +3,7 @@
 --   Model     what the step table speaks of
 --   view l    the model of a link value: all of it but the free slots, on which no answer depends (proofs/FreeSlots.antt)
 use Prim.Native.Nat.{ℕ}
-use mathlib.Core.Bool.{Bool, true, false, _&&_}
+use mathlib.Core.Bool.{Bool, true, _&&_}
 use mathlib.Core.List.{List, []}
 use lib.Dec.{ltb, eqb}
 use Rattle.dlc_packet.specs.Numbers.{modulus}

@@ -3,11 +3,11 @@
 // Definitions: specs/ (Model: a link as the paper has it; Events: the step table; Calls: what each call promises).
 ghost use mathlib.Core.Path.{_≡_};
 ghost use mathlib.Core.Bool.{true, false, cond};
-ghost use mathlib.Core.List.{[], _∷_};
+ghost use mathlib.Core.List.{[]};
 ghost use Prim.Native.Nat.{_≤_, _<_};
 ghost use lib.ListN.{length};
 ghost use lib.Dec.{eqb};
-ghost use Rattle.dlc_packet.specs.Numbers.{modulus, distance};
+ghost use Rattle.dlc_packet.specs.Numbers.{distance};
 ghost use Rattle.dlc_packet.specs.Packet.{maxPayload};
 ghost use Rattle.dlc_queue.specs.Queue.{slots, replySize};
 ghost use Rattle.dlc.specs.Model.{wellFormed, view, fresh};

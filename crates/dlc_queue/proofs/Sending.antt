@@ -9,14 +9,13 @@ use lib.ListN.{length, take, drop, getD, set, replicate, length-append, length-m
 use lib.Seq.{sets, drop-cons, getD-take, length-take-le}
 use lib.Dec.{leb}
 use borrow.Author.Tests.{leb-true, le-leb, lt-leb, lt-ltb, le-ltb}
-use Rattle.common.specs.Buffer.{withFront}
 use Rattle.common.proofs.Buffer.{sets-++, sets-front}
 use Rattle.dlc_packet.specs.Numbers.{modulus, advance}
 use Rattle.dlc_packet.specs.Packet.{maxPayload, dataPacket}
 use Rattle.dlc_queue.specs.declared.Payload.{Payload}
 use Rattle.dlc_queue.specs.declared.Queue.{Queue}
 use Rattle.dlc_queue.specs.Queue.{slots, replySize, octetsOf, allShort, payloads, formed}
-use Rattle.dlc_queue.specs.Send.{dataPackets, lengthsOf, sending, Written, Sent}
+use Rattle.dlc_queue.specs.Send.{dataPackets, sending, Written, Sent}
 use Rattle.dlc_queue.proofs.Short.{none, both}
 
 -- the loop's invariant: x is the number of slot i, at the index of its packet, and what is left gives the whole
@@ -104,4 +103,4 @@ module _ (q : Queue) (x : ℕ) (m : List ℕ) where
   unsent-room e h k = unsent (rw (e, lt-ltb _ _ h, lt-leb _ _ k))
 
   pub sent-all : formed q ≡ true → x < modulus → replySize ≤ length m → sending q x (length m) ≡ dataPackets x (payloads q)
-  sent-all e h k = rw (e, lt-ltb _ _ h, le-leb _ _ k)
+  sent-all e h k = simp (e, lt-ltb _ _ h, le-leb _ _ k)

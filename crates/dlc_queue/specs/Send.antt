@@ -1,6 +1,6 @@
 -- Sending the queue: "every queued payload as DATA, oldest first, none removed"; "places count up from the oldest number, and DATA carries its place's number".
 -- Cited by dlc_queue's functions and by the specs of the link. Assumes nothing.
-use Prim.Native.Nat.{ℕ, _+_}
+use Prim.Native.Nat.{ℕ}
 use mathlib.Core.Path.{_≡_}
 use mathlib.Core.Bool.{cond, _&&_}
 use mathlib.Core.List.{List, [], _∷_, map, flatten}

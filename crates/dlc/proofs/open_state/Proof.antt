@@ -1,7 +1,5 @@
 -- `open_state`: by the count. Assumes nothing.
 use borrow.Author.Tests.{eq-eqb, ne-eqb}
-use native.Mathlib.Omega.{arith}
-use borrow.Author.Needs.{needs}
 use Rattle.dlc.proofs.open_state.Statement.{statement}
 use Rattle.dlc.proofs.open_state.Tie as tie
 

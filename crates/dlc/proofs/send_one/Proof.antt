@@ -1,9 +1,8 @@
 -- `send_one`: one octet at the front of the buffer. Assumes nothing.
-use mathlib.Core.Path.{refl, sym, _∙_}
+use mathlib.Core.Path.{refl}
 use mathlib.Core.List.{[], _∷_}
 use denote.Ref.{now}
 use Rattle.common.proofs.Buffer.{sets-front}
-use native.Mathlib.Omega.{arith}
 use borrow.Author.Needs.{needs}
 use Rattle.dlc.proofs.send_one.Statement.{statement}
 use Rattle.dlc.proofs.send_one.Tie as tie

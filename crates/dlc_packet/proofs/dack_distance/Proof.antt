@@ -1,6 +1,5 @@
 -- `dack_distance`: a difference that wraps modulo 256, taken modulo 16. Assumes nothing.
 use Rattle.dlc_packet.proofs.Numbers.{distance-wraps}
-use borrow.Author.Needs.{needs}
 use Rattle.dlc_packet.proofs.dack_distance.Statement.{statement}
 use Rattle.dlc_packet.proofs.dack_distance.Tie as tie
 

@@ -1,13 +1,13 @@
 -- `moved_down`: payloads are moved to the front, one slot a turn. Assumes nothing.
 use Rattle.dlc_queue.proofs.Lists.{drop-take}
-use Prim.Native.Nat.{ℕ, suc, _+_, _-_, _<_, _≤_}
+use Prim.Native.Nat.{ℕ, _+_, _-_, _<_, _≤_}
 use native.Mathlib.Omega.{arith}
 use native.Mathlib.Numerals.{add-one}
 use borrow.Author.Needs.{needs}
 use mathlib.Core.Path.{_≡_, refl, sym, ap, _∙_}
 use mathlib.Core.List.{List, [], _∷_, _++_}
-use lib.ListN.{length, take, drop, getD, set, length-set, length-drop}
-use lib.Seq.{take-suc-set, take-suc, getD-drop, take-add, drop-at, length-take-le}
+use lib.ListN.{length, take, drop, getD, length-set, length-drop}
+use lib.Seq.{take-suc-set, take-suc, getD-drop}
 use Rattle.dlc_queue.specs.declared.Payload.{Payload}
 use Rattle.dlc_queue.proofs.Short.{none}
 use Rattle.dlc_queue.proofs.moved_down.Statement.{statement}

@@ -5,7 +5,7 @@ use native.Mathlib.Numerals.{add-one}
 use borrow.Author.Needs.{needs}
 use mathlib.Core.Path.{_≡_, refl, sym, ap, _∙_}
 use mathlib.Core.List.{List, [], _∷_, _++_}
-use lib.ListN.{length, take, drop, getD, length-set}
+use lib.ListN.{length, take, getD, length-set}
 use lib.Seq.{take-suc-set, take-suc, take-all}
 use Rattle.dlc_queue.proofs.payload_of.Statement.{statement}
 use Rattle.dlc_queue.proofs.payload_of.Tie as tie

@@ -1,11 +1,8 @@
 -- `put_data`: the control octet, and then the payload behind it. Assumes nothing.
 use Prim.Native.Nat.{_+_}
 use native.Mathlib.Numerals.{add-one}
-use mathlib.Core.Path.{_≡_, refl, sym, ap, _∙_}
-use lib.ListN.{length-set, set}
-use lib.Seq.{sets}
-use Rattle.dlc_queue.specs.Queue.{octetsOf}
-use native.Mathlib.Omega.{arith}
+use mathlib.Core.Path.{refl, _∙_}
+use lib.ListN.{length-set}
 use borrow.Author.Needs.{needs}
 use Rattle.dlc_queue.proofs.put_data.Statement.{statement}
 use Rattle.dlc_queue.proofs.put_data.Tie as tie

@@ -1,15 +1,13 @@
 -- `send_slots`: what is left of the queue, written behind what stands there, gives the whole. Assumes nothing.
 use Prim.Native.Nat.{ℕ, suc, _+_, _-_, _<_, _≤_, zero-le}
 use native.Mathlib.Omega.{arith}
-use mathlib.Core.Path.{_≡_, refl, sym, ap, _∙_}
+use mathlib.Core.Path.{_≡_, refl, _∙_}
 use mathlib.Core.List.{List, [], map, flatten}
-use lib.ListN.{length, take, drop, getD, set, length-set, length-map, drop-of-length-le}
-use lib.Seq.{sets, getD-take, length-take-le}
+use lib.ListN.{length, take, drop, getD, length-set, length-map, drop-of-length-le}
+use lib.Seq.{getD-take, length-take-le}
 use Rattle.dlc_packet.specs.Numbers.{advance}
-use Rattle.dlc_packet.specs.Packet.{dataPacket}
 use Rattle.dlc_queue.specs.declared.Payload.{Payload}
 use Rattle.dlc_queue.specs.Queue.{octetsOf}
-use Rattle.dlc_queue.specs.Send.{dataPackets}
 use Rattle.dlc_queue.proofs.Shape.{array-long, long-at}
 use Rattle.dlc_queue.proofs.Short.{none, short-at}
 use Rattle.dlc_queue.proofs.Sending.{Sending, next, reply-next, counts-next, sent, short-payloads}

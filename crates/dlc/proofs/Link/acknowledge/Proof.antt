@@ -5,10 +5,9 @@ use mathlib.Core.Path.{_≡_, sym, ap, _∙_}
 use lib.ListN.{length}
 use Rattle.dlc_packet.specs.Numbers.{distance}
 use Rattle.dlc.specs.Model.{view}
-use Rattle.dlc.specs.Events.{without, acknowledged}
+use Rattle.dlc.specs.Events.{without}
 use Rattle.dlc.proofs.Parts.{length-queue}
 use Rattle.dlc.proofs.Outcomes.{refused-returns, done-returns, acknowledged-none, acknowledged-over, acknowledged-some}
-use native.Mathlib.Omega.{arith}
 use borrow.Author.Needs.{needs}
 use Rattle.dlc.proofs.Link.acknowledge.Statement.{statement}
 use Rattle.dlc.proofs.Link.acknowledge.Tie as tie

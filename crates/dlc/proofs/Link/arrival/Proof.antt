@@ -1,5 +1,5 @@
 -- `Link::arrival`: the shared refusals, and then the row of the table by the packet's kind. Assumes nothing.
-use Prim.Native.Nat.{ℕ, _≤_}
+use Prim.Native.Nat.{_≤_}
 use mathlib.Core.Path.{_≡_, sym, _∙_}
 use mathlib.Core.Bool.{true}
 use lib.ListN.{length}
@@ -10,7 +10,6 @@ use Rattle.dlc.specs.Model.{wellFormed, view}
 use Rattle.dlc.specs.Events.{arrivalOf, packetStep}
 use Rattle.dlc.proofs.Refusals.{call-ok, call-room, arrival-refused, arrival-step}
 use Rattle.dlc.proofs.Outcomes.{refused-meets, meets-by, silent-meets, reset-ack-silent, dack-silent}
-use native.Mathlib.Omega.{arith}
 use borrow.Author.Needs.{needs}
 use Rattle.dlc.proofs.Link.arrival.Statement.{statement}
 use Rattle.dlc.proofs.Link.arrival.Tie as tie

@@ -1,11 +1,9 @@
 -- `Link::dack`: a row of the table. Assumes nothing.
-use mathlib.Core.Path.{_≡_, sym, subst, ap, _∙_}
+use mathlib.Core.Path.{ap}
 use Rattle.dlc.specs.declared.State.{State}
 use Rattle.dlc.specs.Model.{view}
 use Rattle.dlc.specs.Events.{dackStep}
-use Rattle.dlc.specs.Calls.{Returns}
 use Rattle.dlc.proofs.Outcomes.{refused-returns, returns-by}
-use native.Mathlib.Omega.{arith}
 use borrow.Author.Needs.{needs}
 use Rattle.dlc.proofs.Link.dack.Statement.{statement}
 use Rattle.dlc.proofs.Link.dack.Tie as tie

@@ -1,8 +1,7 @@
 -- `Link::data`: a row of the table: open states judge. Assumes nothing.
-use mathlib.Core.Path.{_≡_, sym, _∙_}
+use mathlib.Core.Path.{sym, _∙_}
 use Rattle.dlc.specs.Model.{view}
 use Rattle.dlc.proofs.Outcomes.{refused-meets, meets-by, data-open, data-closed}
-use native.Mathlib.Omega.{arith}
 use borrow.Author.Needs.{needs}
 use Rattle.dlc.proofs.Link.data.Statement.{statement}
 use Rattle.dlc.proofs.Link.data.Tie as tie

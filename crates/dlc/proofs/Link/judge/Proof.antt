@@ -1,11 +1,9 @@
 -- `Link::judge`: the expected number, or another. Assumes nothing.
 use Prim.Native.Nat.{ℕ, _+_}
 use mathlib.Core.Path.{_≡_, refl, sym, ap, _∙_}
-use mathlib.Core.List.{List, [], _∷_}
-use borrow.Author.Tests.{eq-eqb, ne-eqb}
+use mathlib.Core.List.{[], _∷_}
 use Rattle.dlc_packet.specs.Numbers.{advance, dackNumber}
 use Rattle.dlc.specs.Model.{view}
-use Rattle.dlc.specs.Events.{judged}
 use Rattle.dlc.proofs.Parts.{parts}
 use Rattle.dlc.proofs.Views.{view-expectNext}
 use Rattle.dlc.proofs.Outcomes.{one-meets, meets-by, judged-same, judged-other, taken, other}

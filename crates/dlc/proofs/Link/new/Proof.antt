@@ -1,7 +1,5 @@
 -- `Link::new`: an empty queue makes a fresh link. Assumes nothing.
 use Rattle.dlc.proofs.Views.{view-fresh}
-use native.Mathlib.Omega.{arith}
-use borrow.Author.Needs.{needs}
 use Rattle.dlc.proofs.Link.new.Statement.{statement}
 use Rattle.dlc.proofs.Link.new.Tie as tie
 

@@ -1,5 +1,6 @@
 -- `Link::payload`: the refusals in order, and then the queue. Assumes nothing.
-use Prim.Native.Nat.{ℕ, _<_, _≤_}
+use Prim.Native.Nat.{_<_, _≤_}
+use native.Mathlib.Omega.{arith}
 use mathlib.Core.Path.{_≡_, sym, _∙_}
 use mathlib.Core.Bool.{true}
 use lib.ListN.{length}
@@ -10,8 +11,6 @@ use Rattle.dlc.specs.Events.{withPayload}
 use Rattle.dlc.proofs.Parts.{length-queue}
 use Rattle.dlc.proofs.Refusals.{call-ok, payload-refused, payload-tooLong, payload-notOpen, payload-full, payload-queued}
 use Rattle.dlc.proofs.Outcomes.{refused-meets, done-meets}
-use native.Mathlib.Omega.{arith}
-use borrow.Author.Needs.{needs}
 use Rattle.dlc.proofs.Link.payload.Statement.{statement}
 use Rattle.dlc.proofs.Link.payload.Tie as tie
 
@@ -46,7 +45,7 @@ returns-3 : tie.Need-returns-3
 returns-3 c =
     let s = c .before .before .before .before .before .before .before .before .before .before in
     let l = s .args .self in
-    let full : slots ≤ length (view l .queue) = rw (length-queue l _ (s .good .0) (ok (c .before .before .before .before .before .before))) (c .before .if4 .taken) in
+    let full : slots ≤ length (view l .queue) = rw (length-queue l _ (s .good .0) (ok (c .before .before .before .before .before .before))) (omega (arith, c .before .if4 .taken)) in
     refused-meets _ _ 22 _ _
     (payload-full (view l) (length (now (s .args .reply))) (c .before .before .before .before .before .before .before .refusal .result) (c .before .before .before .before .before .before .before .refusal .ensures) (c .before .before .before .before .before .before .if1 .left) (now (s .args .p)) (c .before .before .before .before .before .if2 .left) (sym (c .before .before .before .before .is-open .ensures) ∙ c .before .before .before .if3 .taken) full)
     (c .silent3 .ensures)

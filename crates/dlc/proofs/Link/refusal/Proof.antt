@@ -1,8 +1,6 @@
 -- `Link::refusal`: 27, then 26. Assumes nothing.
 use mathlib.Core.Path.{sym, _∙_}
 use borrow.Author.Tests.{lt-ltb, le-ltb}
-use native.Mathlib.Omega.{arith}
-use borrow.Author.Needs.{needs}
 use Rattle.dlc.proofs.Link.refusal.Statement.{statement}
 use Rattle.dlc.proofs.Link.refusal.Tie as tie
 

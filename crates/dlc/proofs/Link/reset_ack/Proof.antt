@@ -1,5 +1,5 @@
 -- `Link::reset_ack`: a row of the table. Assumes nothing.
-use mathlib.Core.Path.{_≡_, ap, _∙_}
+use mathlib.Core.Path.{ap, _∙_}
 use Rattle.dlc.specs.declared.State.{State}
 use Rattle.dlc.specs.declared.State.the-variants.{Data}
 use Rattle.dlc.specs.Model.{view}
@@ -7,7 +7,6 @@ use Rattle.dlc.specs.Events.{inState, resetAckStep}
 use Rattle.dlc.proofs.Parts.{parts, reset-fits}
 use Rattle.dlc.proofs.Views.{view-inState}
 use Rattle.dlc.proofs.Outcomes.{refused-returns, done-returns}
-use native.Mathlib.Omega.{arith}
 use borrow.Author.Needs.{needs}
 use Rattle.dlc.proofs.Link.reset_ack.Statement.{statement}
 use Rattle.dlc.proofs.Link.reset_ack.Tie as tie

@@ -2,7 +2,6 @@
 use denote.Ref.{now}
 use Rattle.dlc.proofs.Parts.{length-queue}
 use Rattle.dlc.proofs.Outcomes.{all-meets}
-use native.Mathlib.Omega.{arith}
 use borrow.Author.Needs.{needs}
 use Rattle.dlc.proofs.Link.send_all.Statement.{statement}
 use Rattle.dlc.proofs.Link.send_all.Tie as tie

@@ -1,5 +1,4 @@
 -- `Link::start`: the shared refusals, and then the row of the table by the state. Assumes nothing.
-use Prim.Native.Nat.{ℕ}
 use mathlib.Core.Path.{_≡_, ap, _∙_}
 use mathlib.Core.Bool.{true}
 use lib.ListN.{length}
@@ -12,7 +11,6 @@ use Rattle.dlc.proofs.Parts.{parts, idle-fits}
 use Rattle.dlc.proofs.Views.{view-inState}
 use Rattle.dlc.proofs.Refusals.{call-ok, start-refused, start-step}
 use Rattle.dlc.proofs.Outcomes.{refused-meets, done-meets}
-use native.Mathlib.Omega.{arith}
 use borrow.Author.Needs.{needs}
 use Rattle.dlc.proofs.Link.start.Statement.{statement}
 use Rattle.dlc.proofs.Link.start.Tie as tie

@@ -1,8 +1,6 @@
 -- `Link::well_formed`: queue, numbers and state, in this order. Assumes nothing.
 use mathlib.Core.Path.{sym, _∙_}
 use Rattle.dlc.proofs.Parts.{bad-queue, bad-base, bad-expected, by-state}
-use native.Mathlib.Omega.{arith}
-use borrow.Author.Needs.{needs}
 use Rattle.dlc.proofs.Link.well_formed.Statement.{statement}
 use Rattle.dlc.proofs.Link.well_formed.Tie as tie
 

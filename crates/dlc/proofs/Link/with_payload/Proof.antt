@@ -1,8 +1,6 @@
 -- `Link::with_payload`: what `push` gives makes the link that the table says. Assumes nothing.
 use denote.Ref.{now}
 use Rattle.dlc.proofs.Views.{view-withPayload}
-use native.Mathlib.Omega.{arith}
-use borrow.Author.Needs.{needs}
 use Rattle.dlc.proofs.Link.with_payload.Statement.{statement}
 use Rattle.dlc.proofs.Link.with_payload.Tie as tie
 

@@ -1,9 +1,6 @@
 -- `Link::without`: what `remove`, `open_state` and `advanced` give makes the link that the table says. Assumes nothing.
-use mathlib.Core.Path.{_≡_, sym, ap, _∙_}
 use Rattle.dlc.proofs.Parts.{length-queue}
 use Rattle.dlc.proofs.Views.{view-without}
-use native.Mathlib.Omega.{arith}
-use borrow.Author.Needs.{needs}
 use Rattle.dlc.proofs.Link.without.Statement.{statement}
 use Rattle.dlc.proofs.Link.without.Tie as tie
 

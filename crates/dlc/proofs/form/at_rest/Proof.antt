@@ -1,7 +1,5 @@
 -- `form::at_rest`: three tests in turn. Assumes nothing.
 use borrow.Author.Tests.{eq-eqb, ne-eqb}
-use native.Mathlib.Omega.{arith}
-use borrow.Author.Needs.{needs}
 use Rattle.dlc.proofs.form.at_rest.Statement.{statement}
 use Rattle.dlc.proofs.form.at_rest.Tie as tie
 

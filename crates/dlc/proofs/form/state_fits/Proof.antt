@@ -1,5 +1,4 @@
 -- `form::state_fits`: by the state. Assumes nothing.
-use native.Mathlib.Omega.{arith}
 use borrow.Author.Needs.{needs}
 use Rattle.dlc.proofs.form.state_fits.Statement.{statement}
 use Rattle.dlc.proofs.form.state_fits.Tie as tie

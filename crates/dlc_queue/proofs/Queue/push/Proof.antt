@@ -8,7 +8,7 @@ use Rattle.dlc_queue.proofs.Queue.push.Statement.{statement}
 use Rattle.dlc_queue.proofs.Queue.push.Tie as tie
 
 returns : tie.Need-returns
-returns c = pushed-full (c .before .before .args .t1) (now (c .before .before .args .p)) (c .if1 .taken)
+returns c = pushed-full (c .before .before .args .t1) (now (c .before .before .args .p)) (omega (arith, c .if1 .taken))
 
 returns-2 : tie.Need-returns-2
 returns-2 c = pushed-over (c .before .before .before .args .t1) (now (c .before .before .before .args .p)) (c .before .if1 .left) (c .if2 .taken)

@@ -1,6 +1,5 @@
 -- `Queue::remove`: the three cases of `Removed`. Assumes nothing.
 use Rattle.dlc_queue.proofs.Slots.{removed-over, removed-fewer, removed-oldest}
-use native.Mathlib.Omega.{arith}
 use borrow.Author.Needs.{needs}
 use Rattle.dlc_queue.proofs.Queue.remove.Statement.{statement}
 use Rattle.dlc_queue.proofs.Queue.remove.Tie as tie

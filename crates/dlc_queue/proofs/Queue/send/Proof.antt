@@ -1,9 +1,8 @@
 -- `Queue::send`: nothing is written but where the queue, the number and the buffer are right. Assumes nothing.
-use mathlib.Core.Path.{_≡_, sym, _∙_}
+use mathlib.Core.Path.{sym, _∙_}
 use denote.Ref.{now}
 use Rattle.dlc_queue.proofs.Slots.{formed-count, formed-short}
 use Rattle.dlc_queue.proofs.Sending.{unsent-queue, unsent-number, unsent-room, sent-all}
-use native.Mathlib.Omega.{arith}
 use borrow.Author.Needs.{needs}
 use Rattle.dlc_queue.proofs.Queue.send.Statement.{statement}
 use Rattle.dlc_queue.proofs.Queue.send.Tie as tie

@@ -1,13 +1,13 @@
 -- `Queue::well_formed`: the count, and then the lengths. Assumes nothing.
+use native.Mathlib.Omega.{arith}
 use mathlib.Core.Path.{sym, _∙_}
 use Rattle.dlc_queue.proofs.Slots.{over-formed, within-formed}
-use native.Mathlib.Omega.{arith}
 use borrow.Author.Needs.{needs}
 use Rattle.dlc_queue.proofs.Queue.well_formed.Statement.{statement}
 use Rattle.dlc_queue.proofs.Queue.well_formed.Tie as tie
 
 returns : tie.Need-returns
-returns c = sym (over-formed (c .before .args .self) (c .if1 .taken))
+returns c = sym (over-formed (c .before .args .self) (omega (arith, c .if1 .taken)))
 
 all-short-requires : tie.Need-all-short-requires
 all-short-requires c κs = search needs
