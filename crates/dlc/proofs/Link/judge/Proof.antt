@@ -1,0 +1,73 @@
+-- `Link::judge`: the expected number, or another. Assumes nothing.
+use Prim.Native.Nat.{ℕ, _+_}
+use mathlib.Core.Path.{_≡_, refl, sym, ap, _∙_}
+use mathlib.Core.List.{[], _∷_}
+use Rattle.dlc_packet.specs.Numbers.{advance, dackNumber}
+use Rattle.dlc.specs.Model.{view}
+use Rattle.dlc.proofs.Parts.{parts}
+use Rattle.dlc.proofs.Views.{view-expectNext}
+use Rattle.dlc.proofs.Outcomes.{one-meets, meets-by, judged-same, judged-other, taken, other}
+use native.Mathlib.Omega.{arith}
+use borrow.Author.Needs.{needs}
+use Rattle.dlc.proofs.Link.judge.Statement.{statement}
+use Rattle.dlc.proofs.Link.judge.Tie as tie
+
+advanced-requires : tie.Need-advanced-requires
+advanced-requires c κs = tt
+
+dack-number-requires : tie.Need-dack-number-requires
+dack-number-requires c κs = tt
+
+add-dack : tie.Need-add-dack
+add-dack c = omega (arith, c .dack-number .ensures, c .before .advanced .ensures)
+
+send-one-requires : tie.Need-send-one-requires
+send-one-requires c κs = omega (arith, c .before .before .before .before .before .pre .1 .1)
+
+dack-number-requires-2 : tie.Need-dack-number-requires-2
+dack-number-requires-2 c κs = tt
+
+add-dack-2 : tie.Need-add-dack-2
+add-dack-2 c = omega (arith, c .dack-number2 .ensures, parts (c .before .before .before .args .self) (c .before .before .before .pre .0) .expected)
+
+send-one-requires-2 : tie.Need-send-one-requires-2
+send-one-requires-2 c κs = omega (arith, c .before .before .before .before .pre .1 .1)
+
+same-length : tie.Need-same-length
+same-length c = search needs
+
+returns : tie.Need-returns
+returns c =
+    let l = c .before .before .before .before .before .before .before .before .args .self in
+    let e : c .before .before .before .before .before .advanced .result ≡ advance (l .expected) 1 = c .before .before .before .before .before .advanced .ensures in
+    let d : 80 + c .before .before .before .before .dack-number .result ≡ 80 + dackNumber (advance (l .expected) 1) = ap (λ (n : ℕ). 80 + n) (c .before .before .before .before .dack-number .ensures ∙ e) in
+    meets-by _ (taken (view l)) _ _ _ _ (judged-same (view l) (c .before .before .before .before .before .before .before .before .args .x) (c .before .before .before .before .before .before .if1 .taken))
+    (one-meets (taken (view l)) l (record { state = l .state; queue = l .queue; base = l .base; expected = c .before .before .before .before .before .advanced .result }) (80 + c .before .before .before .before .dack-number .result) _ _ _ refl
+    (ap (λ (n : ℕ). (n ∷ []) ∷ []) (sym d)) (view-expectNext l (c .before .before .before .before .before .before .before .before .pre .0) (c .before .before .before .before .before .advanced .result) (c .before .before .before .before .before .before .before .before .pre .1 .0) e) (c .before .before .send-one .ensures))
+
+same-length-2 : tie.Need-same-length-2
+same-length-2 c = search needs
+
+returns-2 : tie.Need-returns-2
+returns-2 c =
+    let l = c .before .before .before .before .before .before .before .args .self in
+    let d : 80 + c .before .before .before .before .dack-number2 .result ≡ 80 + dackNumber (l .expected) = ap (λ (n : ℕ). 80 + n) (c .before .before .before .before .dack-number2 .ensures) in
+    meets-by _ (other (view l)) _ _ _ _ (judged-other (view l) (c .before .before .before .before .before .before .before .args .x) (c .before .before .before .before .before .if1 .left))
+    (one-meets (other (view l)) l l (80 + c .before .before .before .before .dack-number2 .result) _ _ _ refl
+    (ap (λ (n : ℕ). (n ∷ []) ∷ []) (sym d)) refl (c .before .before .send-one2 .ensures))
+
+pub judge-spec : {M : Type 1} → statement M
+judge-spec =
+    tie.close
+    (tie.spec
+    advanced-requires
+    dack-number-requires
+    add-dack
+    send-one-requires
+    dack-number-requires-2
+    add-dack-2
+    send-one-requires-2
+    same-length
+    returns
+    same-length-2
+    returns-2)

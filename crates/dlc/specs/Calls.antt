@@ -1,0 +1,66 @@
+-- What each call on a link promises, and what a packet delivers. Cited by the link's functions, and by whoever reasons about links. Assumes nothing.
+--
+--   StartCall, TimerCall, PayloadCall, ArrivalCall     the contracts of the four events
+--
+-- Each takes the link that came, what was lent, the reply buffer before and after the call, and what was given back. Answer, later link and later buffer
+-- are equations with the step table. Free slots of the later queue (octets and lengths behind its payloads) are whatever they are, but on a refusal,
+-- where the very link that came is given back; no answer depends on them (proofs/FreeSlots.antt).
+use Prim.Native.Nat.{ℕ}
+use mathlib.Core.Path.{_≡_}
+use mathlib.Core.Bool.{Bool, true, cond}
+use mathlib.Core.List.{List, [], _∷_, flatten}
+use lib.ListN.{length, drop}
+use Rattle.common.specs.Buffer.{withFront}
+use Rattle.dlc_queue.specs.Send.{lengthsOf}
+use Rattle.dlc.specs.declared.Link.{Link}
+use Rattle.dlc.specs.declared.Answer.{Answer}
+use Rattle.dlc.specs.declared.Outcome.{Outcome}
+use Rattle.dlc.specs.Answers.{refuses}
+use Rattle.dlc.specs.Model.{view}
+use Rattle.dlc.specs.Events.{Effect, startOf, timerOf, payloadOf, arrivalOf}
+
+-- the answer that says an effect: with its packets' number and lengths
+abbrev pub answerOf : Effect → Answer
+answerOf d = record {
+  code = d .code;
+  «upper_reset» = d .upperReset;
+  delivered = d .delivered;
+  sent = length (d .packets);
+  lengths = lengthsOf (d .packets);
+}
+
+-- a link given back with the answer of an effect
+abbrev pub given : Link → Effect → Outcome
+given l d = record { link = l; answer = answerOf d }
+
+-- a link given back with one packet of one octet, which is all that was written
+pub record OneSent (l : Link) (c : ℕ) (upperReset delivered : Bool) (octet : ℕ) (before later : List ℕ) (r : Outcome) : Type 0 where
+  pub outcome : r ≡ given l (record { code = c; upperReset = upperReset; delivered = delivered; packets = (octet ∷ []) ∷ []; after = view l })
+  pub reply : later ≡ withFront (octet ∷ []) before
+
+-- what is given back where the effect is d: its answer, the link after it, and on a refusal the very link that came
+pub record Returns (d : Effect) (l : Link) (r : Outcome) : Type 0 where
+  pub answer : r .answer ≡ answerOf d
+  pub link : view (r .link) ≡ d .after
+  pub kept : refuses (d .code) ≡ true → r .link ≡ l
+
+-- and the reply buffer: the packets one after another at its front, the rest as before
+pub record Meets (d : Effect) (l : Link) (before later : List ℕ) (r : Outcome) : Type 0 where
+  pub returns : Returns d l r
+  pub reply : later ≡ withFront (flatten (d .packets)) before
+
+abbrev pub StartCall : Link → List ℕ → List ℕ → Outcome → Type 0
+StartCall l before later r = Meets (startOf (view l) (length before)) l before later r
+
+abbrev pub TimerCall : Link → List ℕ → List ℕ → Outcome → Type 0
+TimerCall l before later r = Meets (timerOf (view l) (length before)) l before later r
+
+abbrev pub PayloadCall : Link → List ℕ → List ℕ → List ℕ → Outcome → Type 0
+PayloadCall l p before later r = Meets (payloadOf (view l) p (length before)) l before later r
+
+abbrev pub ArrivalCall : Link → List ℕ → List ℕ → List ℕ → Outcome → Type 0
+ArrivalCall l packet before later r = Meets (arrivalOf (view l) packet (length before)) l before later r
+
+-- the payload that an arrival delivers, as a part of the lent packet: all behind the control octet, or nothing
+abbrev pub deliveredPart : Bool → List ℕ → List ℕ
+deliveredPart delivered packet = cond delivered (drop 1 packet) []

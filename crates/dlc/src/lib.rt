@@ -1,0 +1,325 @@
+// One end of a DLC link, by value: each event takes a link and gives it back with an answer.
+// Here: the types, the constructor, and the rows of the step table; the four events are in events.rt, what a well-formed link is in form.rt.
+// Definitions: specs/ (Model: a link as the paper has it; Events: the step table; Calls: what each call promises).
+ghost use mathlib.Core.Path.{_≡_};
+ghost use mathlib.Core.Bool.{true, false, cond};
+ghost use mathlib.Core.List.{[]};
+ghost use Prim.Native.Nat.{_≤_, _<_};
+ghost use lib.ListN.{length};
+ghost use lib.Dec.{eqb};
+ghost use Rattle.dlc_packet.specs.Numbers.{distance};
+ghost use Rattle.dlc_packet.specs.Packet.{maxPayload};
+ghost use Rattle.dlc_queue.specs.Queue.{slots, replySize};
+ghost use Rattle.dlc.specs.Model.{wellFormed, view, fresh};
+ghost use Rattle.dlc.specs.Events.{isOpen, effect, cleared, resetAckStep, judged, dataStep, without, acknowledged, dackStep, timerStep, withPayload};
+ghost use Rattle.dlc.specs.Calls.{given, Returns, Meets, OneSent, deliveredPart};
+use dlc_queue::Queue;
+
+mod events;
+mod form;
+
+// The numbers that events answer; all but DONE and OTHER_NUMBER are refusals, which change nothing.
+pub const DONE: u8 = 0;
+
+pub const NOT_OPEN: u8 = 20;
+
+pub const TOO_LONG: u8 = 21;
+
+pub const QUEUE_FULL: u8 = 22;
+
+pub const BAD_PACKET: u8 = 23;
+
+pub const NO_ENTRY: u8 = 24;
+
+pub const OTHER_NUMBER: u8 = 25;
+
+pub const SHORT_REPLY: u8 = 26;
+
+pub const ILL_FORMED: u8 = 27;
+
+// DLIDLE, DLRESET, DLDATA, DLDWAIT
+pub enum State {
+    Idle,
+    Reset,
+    Data,
+    Wait,
+}
+
+// A link; any value of this type may be handed to an event, which answers ILL_FORMED where it is none.
+pub struct Link {
+    pub state: State,
+    pub queue: Queue,
+    // The number of the oldest queued payload, or the next to be given where none is queued.
+    pub base: u8,
+    // The number of the DATA that is expected next.
+    pub expected: u8,
+}
+
+// What an event answers: its number; whether the upper layer is told to reset; whether the lent packet delivers a payload;
+// how many packets stand at the front of the reply buffer, and their lengths, the unused ones 0.
+pub struct Answer {
+    pub code: u8,
+    pub upper_reset: bool,
+    pub delivered: bool,
+    pub sent: usize,
+    pub lengths: [usize; Queue::SLOTS],
+}
+
+pub struct Outcome {
+    pub link: Link,
+    pub answer: Answer,
+}
+
+impl Link {
+    // Payloads that the queue holds, octets of the longest payload, octets that a reply buffer must have.
+    pub const SLOTS: usize = Queue::SLOTS;
+
+    pub const MAX_PAYLOAD: usize = dlc_packet::MAX_PAYLOAD;
+
+    pub const REPLY: usize = Queue::REPLY;
+
+    // A fresh link.
+    pub fn new() -> Self
+        ensures { λ r. ⌜ view r ≡ fresh ⌝ }
+    {
+        let q = Queue::new();
+        Link {
+            state: State::Idle,
+            queue: q,
+            base: 0,
+            expected: 0,
+        }
+    }
+
+    // The link in another state.
+    fn in_state(self, s: State) -> Link
+        ensures { λ r. ⌜ r ≡ record { state = s; queue = self .queue; base = self .base; expected = self .expected } ⌝ }
+    {
+        let q = self.queue;
+        Link {
+            state: s,
+            queue: q,
+            base: self.base,
+            expected: self.expected,
+        }
+    }
+
+    // RESET: clear.
+    fn clear(self, reply: &mut [u8]) -> Outcome
+        requires { ⌜ (wellFormed self ≡ true) × (replySize ≤ length (now reply)) ⌝ }
+        ensures { λ r. ⌜ Meets (cleared (view self)) self (now (reply .entry)) (now (reply .exit)) r ⌝ }
+    {
+        let mut q = self.queue;
+        q.count = 0;
+        let l = Link {
+            state: State::Data,
+            queue: q,
+            base: 0,
+            expected: 0,
+        };
+        send_one(l, DONE, true, false, dlc_packet::RESET_ACK, reply)
+    }
+
+    // RESET_ACK opens a link that waits for it.
+    fn reset_ack(self) -> Outcome
+        requires { ⌜ wellFormed self ≡ true ⌝ }
+        ensures { λ r. ⌜ Returns (resetAckStep (view self) (self .state)) self r ⌝ }
+    {
+        let s = self.state;
+        match s {
+            State::Idle => silent(self, NO_ENTRY),
+            State::Reset => silent(self.in_state(State::Data), DONE),
+            State::Data => silent(self, NO_ENTRY),
+            State::Wait => silent(self, NO_ENTRY),
+        }
+    }
+
+    // DATA x at a link in any state.
+    fn data(self, x: u8, reply: &mut [u8]) -> Outcome
+        requires { ⌜ (wellFormed self ≡ true) × (replySize ≤ length (now reply)) ⌝ }
+        ensures { λ r. ⌜ Meets (dataStep (view self) (self .state) x) self (now (reply .entry)) (now (reply .exit)) r ⌝ }
+    {
+        let s = self.state;
+        if is_open(s) {
+            self.judge(x, reply)
+        } else {
+            silent(self, NO_ENTRY)
+        }
+    }
+
+    // DATA x at an open link: judge. A repeated DATA is answered too: if its DACK was lost, the sender repeats until one comes.
+    fn judge(mut self, x: u8, reply: &mut [u8]) -> Outcome
+        requires { ⌜ (wellFormed self ≡ true) × ((isOpen (self .state) ≡ true) × (replySize ≤ length (now reply))) ⌝ }
+        ensures { λ r. ⌜ Meets (judged (view self) x) self (now (reply .entry)) (now (reply .exit)) r ⌝ }
+    {
+        let expected = self.expected;
+        if x == expected {
+            let next = dlc_packet::advanced(expected, 1);
+            self.expected = next;
+            let dack = dlc_packet::DACK + dlc_packet::dack_number(next);
+            send_one(self, DONE, false, true, dack, reply)
+        } else {
+            let dack = dlc_packet::DACK + dlc_packet::dack_number(expected);
+            send_one(self, OTHER_NUMBER, false, false, dack, reply)
+        }
+    }
+
+    // DACK x at a link in any state.
+    fn dack(self, x: u8) -> Outcome
+        requires { ⌜ wellFormed self ≡ true ⌝ }
+        ensures { λ r. ⌜ Returns (dackStep (view self) (self .state) x) self r ⌝ }
+    {
+        let s = self.state;
+        match s {
+            State::Idle => silent(self, NO_ENTRY),
+            State::Reset => silent(self, NO_ENTRY),
+            State::Data => silent(self, NO_ENTRY),
+            State::Wait => self.acknowledge(x),
+        }
+    }
+
+    // DACK x while payloads wait: remove.
+    fn acknowledge(self, x: u8) -> Outcome
+        requires { ⌜ (wellFormed self ≡ true) × (self .state ≡ State.Wait) ⌝ }
+        ensures { λ r. ⌜ Returns (acknowledged (view self) (distance (self .base) x)) self r ⌝ }
+    {
+        let q = self.queue;
+        let n = dlc_packet::dack_distance(self.base, x);
+        if n == 0 {
+            return silent(self, NO_ENTRY);
+        }
+        let count = q.count;
+        if count < n as usize {
+            return silent(self, NO_ENTRY);
+        }
+        silent(self.without(n), DONE)
+    }
+
+    // The link without its n oldest payloads.
+    fn without(self, n: u8) -> Link
+        requires { ⌜ (wellFormed self ≡ true) × ((self .state ≡ State.Wait) × (n ≤ self .queue .count)) ⌝ }
+        ensures { λ r. ⌜ view r ≡ without (view self) n ⌝ }
+    {
+        let old = self.queue;
+        let q = old.remove(n as usize);
+        let s = open_state(q.count);
+        let base = dlc_packet::advanced(self.base, n);
+        Link {
+            state: s,
+            queue: q,
+            base: base,
+            expected: self.expected,
+        }
+    }
+
+    // The link with p queued behind the others.
+    fn with_payload(self, p: &[u8]) -> Link
+        requires { ⌜ (wellFormed self ≡ true) × ((self .queue .count < slots) × (length (now p) ≤ maxPayload)) ⌝ }
+        ensures { λ r. ⌜ view r ≡ withPayload (view self) (now (p .entry)) ⌝ }
+    {
+        let old = self.queue;
+        let q = old.push(p);
+        Link {
+            state: State::Wait,
+            queue: q,
+            base: self.base,
+            expected: self.expected,
+        }
+    }
+
+    // The timer while payloads wait: send all.
+    fn send_all(self, reply: &mut [u8]) -> Outcome
+        requires { ⌜ (wellFormed self ≡ true) × (replySize ≤ length (now reply)) ⌝ }
+        ensures { λ r. ⌜ Meets (timerStep (view self) State.Wait) self (now (reply .entry)) (now (reply .exit)) r ⌝ }
+    {
+        let q = self.queue;
+        let base = self.base;
+        let lengths = q.send(base, reply);
+        Outcome {
+            link: self,
+            answer: Answer {
+                code: DONE,
+                upper_reset: false,
+                delivered: false,
+                sent: q.count,
+                lengths: lengths,
+            },
+        }
+    }
+}
+
+impl Answer {
+    // The payload that an arrival delivered, as a part of its packet; empty where it delivered none.
+    pub fn payload(self, packet: &[u8]) -> &[u8]
+        ensures { λ r. ⌜ now r ≡ deliveredPart (self .delivered) (now (packet .entry)) ⌝ }
+    {
+        let delivered = self.delivered;
+        if delivered {
+            if 0 < packet.len() {
+                return &packet[1..];
+            }
+            return &packet[..0];
+        }
+        &packet[..0]
+    }
+}
+
+// Whether payloads can pass: DLDATA and DLDWAIT.
+fn is_open(s: State) -> bool
+    ensures { λ r. ⌜ r ≡ isOpen s ⌝ }
+{
+    match s {
+        State::Idle => false,
+        State::Reset => false,
+        State::Data => true,
+        State::Wait => true,
+    }
+}
+
+// The state of an open link with a queue of n payloads.
+fn open_state(n: usize) -> State
+    ensures { λ r. ⌜ r ≡ cond (eqb n 0) State.Data State.Wait ⌝ }
+{
+    if n == 0 { State::Data } else { State::Wait }
+}
+
+// Gives a link back with a number alone: nothing sent, nothing for the upper layer.
+fn silent(link: Link, code: u8) -> Outcome
+    ensures { λ r. ⌜ r ≡ given link (effect code [] (view link)) ⌝ }
+{
+    Outcome {
+        link: link,
+        answer: Answer {
+            code: code,
+            upper_reset: false,
+            delivered: false,
+            sent: 0,
+            lengths: [0; Queue::SLOTS],
+        },
+    }
+}
+
+// Gives a link back with one packet of one octet.
+fn send_one(
+    link: Link,
+    code: u8,
+    reset: bool,
+    delivered: bool,
+    octet: u8,
+    reply: &mut [u8],
+) -> Outcome
+    requires { ⌜ 1 ≤ length (now reply) ⌝ }
+    ensures { λ r. ⌜ OneSent link code reset delivered octet (now (reply .entry)) (now (reply .exit)) r ⌝ }
+{
+    reply[0] = octet;
+    Outcome {
+        link: link,
+        answer: Answer {
+            code: code,
+            upper_reset: reset,
+            delivered: delivered,
+            sent: 1,
+            lengths: [1, 0, 0, 0, 0, 0, 0],
+        },
+    }
+}

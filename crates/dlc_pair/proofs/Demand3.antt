@@ -1,0 +1,48 @@
+-- Demand 3. The theorem stands last. Assumes nothing.
+--
+-- Beside it: Existence (every list of events has a history), Worked (a run with losses, repeats, refusals and a restart of the numbers; a run
+-- that meets the bound with equality), Opening (how both ends come to stand open), Progress (what waits is delivered, where nothing is lost).
+-- By itself the claim also holds of some wrong links: one that always answers 24 and sends nothing, one that answers 0 to a DACK of
+-- distance 0, one that removes all at a distance above the queue. They are ruled out by the contracts, which are equations with the step
+-- table, and the histories here are of calls that meet the contracts.
+use Prim.Native.Nat.{_+_}
+use native.Mathlib.Omega.{arith}
+use mathlib.Core.Path.{_≡_, sym, ap, _∙_}
+use mathlib.Core.List.{List, _++_, map}
+use lib.ListN.{length}
+use Rattle.dlc.specs.declared.Link.{Link}
+use Rattle.dlc.specs.Model.{view, opened}
+use Rattle.window.specs.Sides.{left, right}
+use Rattle.window.specs.Ends.{End as Peer}
+use Rattle.window.specs.Events.{start as packetStart}
+use Rattle.window.specs.Claim.{OneWay as PacketOneWay}
+use Rattle.window.proofs.SlidingWindow.{sliding-window}
+use Rattle.dlc_pair.specs.World.{Packets, End, World, initial}
+use Rattle.dlc_pair.specs.History.{Event, History}
+use Rattle.dlc_pair.specs.Demand3.{OneWay, Demand3}
+use Rattle.dlc_pair.specs.Rules.{rules}
+use Rattle.dlc_pair.proofs.Relation.{Follows, BothFollow}
+use Rattle.dlc_pair.proofs.Effects.{lawful}
+use Rattle.dlc_pair.proofs.Runs.{eventOf, run-follows, timerWaits-follow, follow-initial}
+
+-- what the packet system's ends give, read off at the ends that follow them
+one-way : {e e′ : End} {a a′ : Peer} {P Q : Type 0} → Follows e a → Follows e′ a′ → (Q → P) → PacketOneWay rules a a′ P → OneWay e e′ Q
+one-way f f′ g c = record {
+  prefix = (c .prefix .0, ap (λ (l : Packets). l ++ c .prefix .0) (f′ .delivered) ∙ c .prefix .1 ∙ sym (f .accepted));
+  bound = λ q. omega (arith, c .bound (g q), f .sent, f .lost, ap length (f .accepted));
+  formed = f .never;
+}
+
+-- from every world that follows the packet system's start
+pub demand-three-from : {w : World} → BothFollow w packetStart → (es : List Event) (h : History es w) → Demand3 es w h
+demand-three-from f es h =
+    let last = run-follows es f h in
+    let c = sliding-window rules lawful (map eventOf es) in
+    record {
+      leftToRight = one-way (last .left) (last .right) (timerWaits-follow left es f h) (c .leftToRight);
+      rightToLeft = one-way (last .right) (last .left) (timerWaits-follow right es f h) (c .rightToLeft);
+    }
+
+-- demand 3: for every list of events, whatever its calls give back under their contracts
+pub demand-three : (l l′ : Link) → view l ≡ opened → view l′ ≡ opened → (es : List Event) (h : History es (initial l l′)) → Demand3 es (initial l l′) h
+demand-three l l′ e e′ es h = demand-three-from (follow-initial l l′ e e′) es h

@@ -1,0 +1,11 @@
+pub mod Cases
+pub mod Codec
+pub mod Relation
+pub mod Effects
+pub mod Steps
+pub mod Runs
+pub mod Demand3
+pub mod Existence
+pub mod Worked
+pub mod Progress
+pub mod Opening

@@ -1,0 +1,140 @@
+-- Progress and recovery, from every world that a history reaches. The theorems stand last. Assumes nothing.
+use Prim.Native.Nat.{ℕ, zero, suc, _+_, _≤_}
+use native.Mathlib.Omega.{arith}
+use mathlib.Core.Path.{_≡_, refl, sym, ap, subst, _∙_}
+use mathlib.Core.Bool.{Bool, true, not}
+use mathlib.Core.List.{List, [], _∷_, _++_, map, map-append}
+use lib.ListN.{length, replicate, length-replicate, length-map}
+use borrow.Author.Tests.{le-ltb}
+use Rattle.dlc.specs.declared.Link.{Link}
+use Rattle.dlc.specs.Limits.{slots, replySize}
+use Rattle.dlc.specs.Model.{Model, view, opened}
+use Rattle.window.specs.Sides.{Side, left, right, opposite, Both, endAt}
+use Rattle.window.specs.Packets.{Packet}
+use Rattle.window.specs.Ends.{End as Peer}
+use Rattle.window.specs.Events.{timeout, receive, Event as PacketEvent, start as packetStart, run}
+use Rattle.window.specs.Claim.{exchange as packetExchange, Settled as PacketSettled, recovery as packetRecovery, Recovered as PacketRecovered}
+use Rattle.window.proofs.Progress.{progress as packets-progress, recovers as packets-recover}
+use Rattle.dlc_pair.specs.World.{Octets, End, World, initial}
+use Rattle.dlc_pair.specs.History.{Event, History, final}
+use Rattle.dlc_pair.specs.Progress.{Enough, AllEnough, arrivals, exchange, Settled, recovery, Recovered}
+use Rattle.dlc_pair.specs.Rules.{rules}
+use Rattle.dlc_pair.proofs.Codec.{encode}
+use Rattle.dlc_pair.proofs.Relation.{Follows, BothFollow}
+use Rattle.dlc_pair.proofs.Effects.{lawful}
+use Rattle.dlc_pair.proofs.Steps.{tooShort}
+use Rattle.dlc_pair.proofs.Runs.{eventOf, runOf, run-follows, follow-initial}
+
+-- ---- the packet system's exchange
+enough-long : (b : Octets) → Enough b → not (tooShort b) ≡ true
+enough-long b h = ap not (le-ltb (length b) replySize h)
+
+arrivals-packets : (d : Side) (bs : List Octets) → AllEnough bs
+    → map eventOf (arrivals d bs) ≡ replicate (length bs) (record { side = d; act = receive true })
+arrivals-packets d [] h = refl
+arrivals-packets d (b ∷ bs) h = λ i. record { side = d; act = receive (enough-long b (h .0) i) } ∷ arrivals-packets d bs (h .1) i
+
+exchange-packets : (d : Side) (b : Octets) (bs cs : List Octets) → Enough b → AllEnough bs → AllEnough cs
+    → map eventOf (exchange d b bs cs) ≡ packetExchange d (length bs) (length cs)
+exchange-packets d b bs cs h hs ks =
+    let there = arrivals-packets (opposite d) bs hs in
+    let here = arrivals-packets d cs ks in
+    let both : map eventOf (arrivals (opposite d) bs ++ arrivals d cs) ≡ _ = map-append eventOf (arrivals (opposite d) bs) (arrivals d cs) ∙ (λ i. there i ++ here i) in
+    ap (λ (ok : Bool). record { side = d; act = timeout ok } ∷ map eventOf (arrivals (opposite d) bs ++ arrivals d cs)) (enough-long b h)
+    ∙ ap (λ (es : List PacketEvent). record { side = d; act = timeout true } ∷ es) both
+
+-- ---- the packet system's recovery, where all buffers are b
+module _ (b : Octets) (h : Enough b) where
+  enough-replicate : (n : ℕ) → AllEnough (replicate n b)
+  enough-replicate zero = tt
+  enough-replicate (suc n) = (h, enough-replicate n)
+
+  arrivals-replicate : (d : Side) (n : ℕ) → map eventOf (arrivals d (replicate n b)) ≡ replicate n (record { side = d; act = receive true })
+  arrivals-replicate d n =
+      arrivals-packets d (replicate n b) (enough-replicate n)
+      ∙ ap (λ (k : ℕ). replicate k (record { side = d; act = receive true })) (length-replicate n b)
+
+  exchange-replicate : (d : Side) (n : ℕ) → map eventOf (exchange d b (replicate n b) (replicate n b)) ≡ packetExchange d n n
+  exchange-replicate d n =
+      exchange-packets d b (replicate n b) (replicate n b) h (enough-replicate n) (enough-replicate n) ∙ ap (λ (k : ℕ). packetExchange d k k) (length-replicate n b)
+
+  -- two lists of events, one after the other
+  events-++ : (es fs : List Event) {ks ls : List PacketEvent} → map eventOf es ≡ ks → map eventOf fs ≡ ls → map eventOf (es ++ fs) ≡ ks ++ ls
+  events-++ es fs e f = map-append eventOf es fs ∙ (λ i. e i ++ f i)
+
+  recovery-packets : (n : ℕ) → map eventOf (recovery b n) ≡ packetRecovery n
+  recovery-packets n =
+      let one = replicate n b in
+      let two = replicate (n + n) b in
+      let last = events-++ (exchange left b one one) (exchange right b one one) (exchange-replicate left n) (exchange-replicate right n) in
+      let third = events-++ (arrivals right two) (exchange left b one one ++ exchange right b one one) (arrivals-replicate right (n + n)) last in
+      let second = events-++ (arrivals left two) (arrivals right two ++ (exchange left b one one ++ exchange right b one one)) (arrivals-replicate left (n + n)) third in
+      events-++ (arrivals right one) _ (arrivals-replicate right n) second
+
+-- ---- read off at the ends that follow
+end-follows : (d : Side) {w : World} {s : Both Peer} → BothFollow w s → Follows (endAt d w) (endAt d s)
+end-follows left f = f .left
+end-follows right f = f .right
+
+line-nil : {e : End} {a : Peer} → Follows e a → e .line ≡ [] → a .line ≡ []
+line-nil {e} {a} f h = from-map (a .line) (sym (f .line) ∙ h)
+  where
+    from-map : (ks : List Packet) → map encode ks ≡ [] → ks ≡ []
+    from-map [] h = refl
+    from-map (k ∷ ks) h = cc
+
+settled-follows : (d : Side) {w z : World} {s t : Both Peer} → BothFollow w s → BothFollow z t → PacketSettled d s t → Settled d w z
+settled-follows d f g p = record {
+  queue = ap (λ (m : Model). m .queue) (end-follows d g .model) ∙ p .queue;
+  accepted = end-follows d g .accepted ∙ p .accepted ∙ sym (end-follows d f .accepted);
+  delivered = end-follows (opposite d) g .delivered ∙ p .delivered ∙ sym (end-follows d f .accepted);
+  lines = (g .left .line ∙ ap (map encode) (p .lines .0), g .right .line ∙ ap (map encode) (p .lines .1));
+}
+
+recovered-follows : {w z : World} {s t : Both Peer} → BothFollow w s → BothFollow z t → PacketRecovered s t → Recovered w z
+recovered-follows f g p = record {
+  queues = (ap (λ (m : Model). m .queue) (g .left .model) ∙ p .queues .0, ap (λ (m : Model). m .queue) (g .right .model) ∙ p .queues .1);
+  lines = (g .left .line ∙ ap (map encode) (p .lines .0), g .right .line ∙ ap (map encode) (p .lines .1));
+  leftToRight = g .right .delivered ∙ p .leftToRight ∙ sym (f .left .accepted);
+  rightToLeft = g .left .delivered ∙ p .rightToLeft ∙ sym (f .right .accepted);
+}
+
+line-length : {e : End} {a : Peer} {n : ℕ} → Follows e a → length (e .line) ≤ n → length (a .line) ≤ n
+line-length {e} {a} f h = omega (arith, ap length (f .line), length-map (a .line) encode)
+
+-- once both lines are empty: one timer call, at least as many arrivals at the other end as payloads are queued, and at least as many at this
+-- end; every reply buffer is large enough and nothing is lost
+pub progress : (l l′ : Link) → view l ≡ opened → view l′ ≡ opened → (es : List Event) (h : History es (initial l l′))
+    → final es (initial l l′) h .left .line ≡ []
+    → final es (initial l l′) h .right .line ≡ []
+    → (d : Side) (b : Octets) (bs cs : List Octets)
+    → Enough b
+    → AllEnough bs
+    → AllEnough cs
+    → length (view (endAt d (final es (initial l l′) h) .link) .queue) ≤ length bs
+    → length bs ≤ length cs
+    → (more : History (exchange d b bs cs) (final es (initial l l′) h))
+    → Settled d (final es (initial l l′) h) (final (exchange d b bs cs) (final es (initial l l′) h) more)
+progress l l′ e e′ es h el er d b bs cs hb hbs hcs fewer less more =
+    let f : BothFollow (final es (initial l l′) h) (runOf es packetStart) = run-follows es (follow-initial l l′ e e′) h in
+    let queued : length (endAt d (runOf es packetStart) .sender .queue) ≤ length bs =
+    subst (λ (m : Model). length (m .queue) ≤ length bs) (end-follows d f .model) fewer in
+    let p = packets-progress rules lawful (map eventOf es) d (line-nil (f .left) el) (line-nil (f .right) er) (length bs) (length cs) queued less in
+    settled-follows d f (run-follows (exchange d b bs cs) f more)
+    (subst (λ (fs : List PacketEvent). PacketSettled d (runOf es packetStart) (run rules fs (runOf es packetStart))) (sym (exchange-packets d b bs cs hb hbs hcs)) p)
+
+-- whatever is on the lines and in the queues: arrivals of what is on the lines, and an exchange of each end; every reply buffer is large enough
+-- and nothing is lost. n is at least the packets on either line, and the slots of a queue
+pub recovers : (l l′ : Link) → view l ≡ opened → view l′ ≡ opened → (es : List Event) (h : History es (initial l l′)) (b : Octets)
+    → Enough b
+    → (n : ℕ)
+    → length (final es (initial l l′) h .left .line) ≤ n
+    → length (final es (initial l l′) h .right .line) ≤ n
+    → slots ≤ n
+    → (more : History (recovery b n) (final es (initial l l′) h))
+    → Recovered (final es (initial l l′) h) (final (recovery b n) (final es (initial l l′) h) more)
+recovers l l′ e e′ es h b hb n hl hr hn more =
+    let f : BothFollow (final es (initial l l′) h) (runOf es packetStart) = run-follows es (follow-initial l l′ e e′) h in
+    let p = packets-recover rules lawful (map eventOf es) n (line-length (f .left) hl) (line-length (f .right) hr) hn in
+    recovered-follows f (run-follows (recovery b n) f more)
+    (subst (λ (fs : List PacketEvent). PacketRecovered (runOf es packetStart) (run rules fs (runOf es packetStart))) (sym (recovery-packets b hb n)) p)

@@ -1,0 +1,97 @@
+-- Lists of events: every history of a list is followed by one run of the packet system, which the list alone decides. Assumes nothing.
+use native.Mathlib.Omega.{arith}
+use mathlib.Core.Path.{_≡_, refl, sym, ap, _∙_}
+use mathlib.Core.List.{List, [], _∷_, map}
+use Rattle.dlc.specs.declared.Link.{Link}
+use Rattle.dlc.specs.Model.{view, opened}
+use Rattle.window.specs.Sides.{Side, left, right, Both}
+use Rattle.window.specs.Packets.{countData, countDack}
+use Rattle.window.specs.Ends.{End as Peer}
+use Rattle.window.specs.Events.{Event as PacketEvent, fresh, start as packetStart, stepAt, run, Waits as PacketWaits, WaitsAt as PacketWaitsAt, TimerWaits as PacketTimerWaits}
+use Rattle.dlc_pair.specs.World.{isData, isDack, count, freshEnd, World, initial}
+use Rattle.dlc_pair.specs.History.{Act, payload, timer, start, arrival, loss, Event, GivenAt, afterAt, History, final, Waits, WaitsAt, TimerWaits}
+use Rattle.dlc_pair.specs.Rules.{rules}
+use Rattle.dlc_pair.proofs.Codec.{count-data, count-dack}
+use Rattle.dlc_pair.proofs.Relation.{Follows, BothFollow, follow-mirror}
+use Rattle.dlc_pair.proofs.Steps.{actOf, step-follows}
+
+abbrev pub eventOf : Event → PacketEvent
+eventOf e = record { side = e .side; act = actOf (e .act) }
+
+-- the packet system after the same events
+abbrev pub runOf : List Event → Both Peer → Both Peer
+runOf es s = run rules (map eventOf es) s
+
+pub stepAt-follows : (d : Side) (a : Act) {w : World} {s : Both Peer} → BothFollow w s → (g : GivenAt d a w)
+    → BothFollow (afterAt d a w g) (stepAt rules d (actOf a) s)
+stepAt-follows left a f g = step-follows a f g
+stepAt-follows right a f g = follow-mirror (step-follows a (follow-mirror f) g)
+
+pub run-follows : (es : List Event) {w : World} {s : Both Peer} → BothFollow w s → (h : History es w) → BothFollow (final es w h) (runOf es s)
+run-follows [] f h = f
+run-follows (e ∷ es) f h = run-follows es (stepAt-follows (e .side) (e .act) f (h .0)) (h .1)
+
+-- ---- the timer's premise says the same of both
+module _ {w : World} {s : Both Peer} (f : BothFollow w s) where
+  pub drained-data : count isData (w .left .line) ≡ countData (s .left .line)
+  drained-data = ap (count isData) (f .left .line) ∙ count-data (s .left .line) (f .left .sound)
+
+  pub drained-dacks : count isDack (w .right .line) ≡ countDack (s .right .line)
+  drained-dacks = ap (count isDack) (f .right .line) ∙ count-dack (s .right .line) (f .right .sound)
+
+  pub waits-follow : (a : Act) → Waits a w → PacketWaits (actOf a) s
+  waits-follow (payload p before) h = tt
+  waits-follow (timer before) h = (sym drained-data ∙ h .0, sym drained-dacks ∙ h .1)
+  waits-follow (start before) h = tt
+  waits-follow (arrival before) h = tt
+  waits-follow (loss n) h = tt
+
+  pub waits-back : (a : Act) → PacketWaits (actOf a) s → Waits a w
+  waits-back (payload p before) h = tt
+  waits-back (timer before) h = (drained-data ∙ h .0, drained-dacks ∙ h .1)
+  waits-back (start before) h = tt
+  waits-back (arrival before) h = tt
+  waits-back (loss n) h = tt
+
+waitsAt-follow : (c d : Side) (a : Act) {w : World} {s : Both Peer} → BothFollow w s → WaitsAt c d a w → PacketWaitsAt c d (actOf a) s
+waitsAt-follow left left a f h = waits-follow f a h
+waitsAt-follow left right a f h = tt
+waitsAt-follow right left a f h = tt
+waitsAt-follow right right a f h = waits-follow (follow-mirror f) a h
+
+waitsAt-back : (c d : Side) (a : Act) {w : World} {s : Both Peer} → BothFollow w s → PacketWaitsAt c d (actOf a) s → WaitsAt c d a w
+waitsAt-back left left a f h = waits-back f a h
+waitsAt-back left right a f h = tt
+waitsAt-back right left a f h = tt
+waitsAt-back right right a f h = waits-back (follow-mirror f) a h
+
+pub timerWaits-follow : (d : Side) (es : List Event) {w : World} {s : Both Peer} → BothFollow w s → (h : History es w) → TimerWaits d es w h
+    → PacketTimerWaits rules d (map eventOf es) s
+timerWaits-follow d [] f h t = tt
+timerWaits-follow d (e ∷ es) {w} f h t =
+    let before : WaitsAt d (e .side) (e .act) w = t .0 in
+    (waitsAt-follow d (e .side) (e .act) f before, timerWaits-follow d es (stepAt-follows (e .side) (e .act) f (h .0)) (h .1) (t .1))
+
+pub timerWaits-back : (d : Side) (es : List Event) {w : World} {s : Both Peer} → BothFollow w s → (h : History es w)
+    → PacketTimerWaits rules d (map eventOf es) s
+    → TimerWaits d es w h
+timerWaits-back d [] f h t = tt
+timerWaits-back d (e ∷ es) f h t =
+    (waitsAt-back d (e .side) (e .act) f (t .0), timerWaits-back d es (stepAt-follows (e .side) (e .act) f (h .0)) (h .1) (t .1))
+
+-- ---- the start
+follows-fresh : (l : Link) → view l ≡ opened → Follows (freshEnd l) fresh
+follows-fresh l e = record {
+  model = e;
+  line = refl;
+  accepted = refl;
+  delivered = refl;
+  sent = refl;
+  lost = refl;
+  never = tt;
+  fits = record { base = omega arith; expected = omega arith; short = tt; few = omega arith };
+  sound = tt;
+}
+
+pub follow-initial : (l l′ : Link) → view l ≡ opened → view l′ ≡ opened → BothFollow (initial l l′) packetStart
+follow-initial l l′ e e′ = record { left = follows-fresh l e; right = follows-fresh l′ e′ }

@@ -1,0 +1,31 @@
+-- Demand 3: one claim about a list of events. Proved in proofs/Demand3. Assumes nothing.
+--
+-- The theorem: for all links l, l′ with view l ≡ opened and view l′ ≡ opened, every list of events es and every history h of it from
+-- `initial l l′`: Demand3 es (initial l l′) h.
+use Prim.Native.Nat.{ℕ, _+_, _*_, _≤_}
+use mathlib.Core.Logic.{_≢_}
+use mathlib.Core.List.{List, [], _∷_, IsPrefix}
+use lib.ListN.{length}
+use Rattle.window.specs.Sides.{left, right}
+use Rattle.dlc.specs.Limits.{slots}
+use Rattle.dlc.specs.Answers.{illFormed}
+use Rattle.dlc_pair.specs.World.{End, World, dataSent}
+use Rattle.dlc_pair.specs.History.{Event, History, final, TimerWaits}
+
+-- no number of the list is this one
+abbrev pub Never : ℕ → List ℕ → Type 0
+Never c [] = Unit {0}
+Never c (x ∷ xs) = (x ≢ c) × Never c xs
+
+-- from a sender to its receiver:
+--   prefix   the payloads delivered are an initial part of those accepted, in order, empty ones too
+--   bound    where the sender's timer waited, DATA sent ≤ accepted + seven for each lost
+--   formed   27 is never its answer
+pub record OneWay (sender receiver : End) (Waited : Type 0) : Type 0 where
+  pub prefix : IsPrefix (receiver .delivered) (sender .accepted)
+  pub bound : Waited → dataSent sender ≤ length (sender .accepted) + slots * sender .lost
+  pub formed : Never illFormed (sender .answers)
+
+pub record Demand3 (es : List Event) (w : World) (h : History es w) : Type 0 where
+  pub leftToRight : OneWay (final es w h .left) (final es w h .right) (TimerWaits left es w h)
+  pub rightToLeft : OneWay (final es w h .right) (final es w h .left) (TimerWaits right es w h)

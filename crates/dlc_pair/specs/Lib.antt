@@ -1,0 +1,6 @@
+pub mod World
+pub mod History
+pub mod Demand3
+pub mod Opening
+pub mod Progress
+pub mod Rules

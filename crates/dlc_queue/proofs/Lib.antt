@@ -1,0 +1,5 @@
+pub mod Lists
+pub mod Short
+pub mod Shape
+pub mod Slots
+pub mod Sending

@@ -1,0 +1,45 @@
+-- Laws of `allShort`: no payload is too long. Assumes nothing.
+use Prim.Native.Nat.{ℕ, zero, suc, _+_, _<_, _≤_}
+use native.Mathlib.Numerals.{add-one}
+use mathlib.Core.Path.{_≡_, refl, ap}
+use mathlib.Core.Bool.{Bool, true, false, _&&_}
+use mathlib.Core.List.{List, [], _∷_, _++_}
+use lib.Dec.{leb, lit≤}
+use lib.ListN.{length, getD, drop}
+use lib.Seq.{drop-cons}
+use borrow.Author.Tests.{le-leb, lt-leb, leb-true}
+use Rattle.dlc_packet.specs.Packet.{maxPayload}
+use Rattle.dlc_queue.specs.declared.Payload.{Payload}
+use Rattle.dlc_queue.specs.Queue.{allShort}
+
+-- what an array gives past its end
+abbrev pub none : Payload
+none = record { len = 0; octets = [] }
+
+-- both of two tests
+pub both : (a b : Bool) → a && b ≡ true → (a ≡ true) × (b ≡ true)
+both true b e = (refl, e)
+both false true e = (e, refl)
+both false false e = (e, e)
+
+pub short-at : (l : List Payload) (i : ℕ) → allShort l ≡ true → getD l i none .len ≤ maxPayload
+short-at [] i e = lit≤ tt
+short-at (p ∷ ps) zero e = leb-true (p .len) maxPayload (both (leb (p .len) maxPayload) (allShort ps) e .0)
+short-at (p ∷ ps) (suc i) e = short-at ps i (both (leb (p .len) maxPayload) (allShort ps) e .1)
+
+-- a search for one that is too long: it is here, or it is further on
+pub short-stops : (l : List Payload) (i : ℕ) → i < length l → maxPayload < getD l i none .len → allShort (drop i l) ≡ false
+short-stops l i h over = rw (drop-cons l i none h) (simp (lt-leb _ _ over))
+
+pub short-goes : (l : List Payload) (i : ℕ) → i < length l → getD l i none .len ≤ maxPayload → allShort (drop i l) ≡ allShort (drop (i + 1) l)
+short-goes l i h under = rw (drop-cons l i none h, add-one i) (simp (le-leb _ _ under))
+
+-- a short payload more
+pub short-snoc : (ps : List Payload) (x : Payload) → x .len ≤ maxPayload → allShort (ps ++ (x ∷ [])) ≡ allShort ps
+short-snoc [] x h = simp (le-leb _ _ h)
+short-snoc (p ∷ ps) x h = ap (λ (b : Bool). leb (p .len) maxPayload && b) (short-snoc ps x h)
+
+pub short-drop : (k : ℕ) (ps : List Payload) → allShort ps ≡ true → allShort (drop k ps) ≡ true
+short-drop zero ps e = e
+short-drop (suc k) [] e = e
+short-drop (suc k) (p ∷ ps) e = short-drop k ps (both (leb (p .len) maxPayload) (allShort ps) e .1)

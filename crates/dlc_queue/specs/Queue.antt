@@ -1,0 +1,63 @@
+-- The queue: "the queue holds at most 7 payloads, oldest first, and freed places are used again". A place is a slot here.
+-- Cited by dlc_queue's functions and by the specs of the link. Assumes nothing.
+--
+--   payloads q     the payloads that a queue holds; octets past a payload's length and slots past the count are free, and no part of it
+--   formed q       whether a queue value is one: at most 7 payloads, none over 256 octets
+--   pushed q p     what push makes of it, removed q n what remove makes of it
+use Prim.Native.Nat.{ℕ, _+_, _-_, _*_}
+use mathlib.Core.Path.{_≡_}
+use mathlib.Core.Bool.{Bool, true, cond, _&&_}
+use mathlib.Core.List.{List, [], _∷_, _++_, map}
+use lib.ListN.{length, take, drop}
+use lib.Dec.{leb, ltb}
+use Rattle.dlc_packet.specs.Packet.{maxPayload}
+use Rattle.dlc_queue.specs.declared.Payload.{Payload}
+use Rattle.dlc_queue.specs.declared.Queue.{Queue}
+
+-- payloads that a queue can hold
+abbrev pub slots : ℕ
+slots = 7
+
+-- octets of a reply buffer: room for a full queue of the longest payloads, each with its control octet
+abbrev pub replySize : ℕ
+replySize = slots * (maxPayload + 1)
+
+-- the octets of one slot
+abbrev pub octetsOf : Payload → List ℕ
+octetsOf p = take (p .len) (p .octets)
+
+-- the slots in use, oldest first
+abbrev pub used : Queue → List Payload
+used q = take (q .count) (q .slots)
+
+-- the payloads queued, oldest first
+abbrev pub payloads : Queue → List (List ℕ)
+payloads q = map octetsOf (used q)
+
+-- no payload is over 256 octets
+abbrev pub allShort : List Payload → Bool
+allShort [] = true
+allShort (p ∷ ps) = leb (p .len) maxPayload && allShort ps
+
+-- a queue value that can be: count and lengths within their limits; the length of a free slot may be anything
+unfoldable pub formed : Queue → Bool
+formed q = leb (q .count) slots && allShort (used q)
+
+-- whether one payload more can be queued
+abbrev pub hasRoom : Queue → List ℕ → Bool
+hasRoom q p = ltb (q .count) slots && leb (length p) maxPayload
+
+-- the queue after push: the payload behind the others; without room for it, or where it is too long, the queue as it came
+pub record Pushed (q : Queue) (p : List ℕ) (r : Queue) : Type 0 where
+  pub count : r .count ≡ cond (hasRoom q p) (q .count + 1) (q .count)
+  pub queue : payloads r ≡ cond (hasRoom q p) (payloads q ++ (p ∷ [])) (payloads q)
+  pub formed : formed r ≡ formed q
+
+-- whether that many payloads are there to be removed
+abbrev pub hasOldest : Queue → ℕ → Bool
+hasOldest q n = leb (q .count) slots && leb n (q .count)
+
+-- the queue after remove: without its n oldest payloads; where it holds fewer, or is none, the queue as it came
+pub record Removed (q : Queue) (n : ℕ) (r : Queue) : Type 0 where
+  pub count : r .count ≡ cond (hasOldest q n) (q .count - n) (q .count)
+  pub used : used r ≡ cond (hasOldest q n) (drop n (used q)) (used q)

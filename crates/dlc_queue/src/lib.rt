@@ -1,0 +1,217 @@
+// The queue of a DLC link: at most 7 payloads of at most 256 octets, oldest first, by value.
+// Definitions: specs/. Every public function takes any queue value whatever, also one that no call has made.
+ghost use mathlib.Core.Path.{_≡_};
+ghost use mathlib.Core.Bool.{true};
+ghost use mathlib.Core.List.{[], map};
+ghost use Prim.Native.Nat.{_+_, _-_, _≤_, _<_};
+ghost use lib.ListN.{length, take, drop};
+ghost use lib.Seq.{sets};
+ghost use Rattle.dlc_packet.specs.Numbers.{modulus};
+ghost use Rattle.dlc_packet.specs.Packet.{maxPayload, dataPacket};
+ghost use Rattle.dlc_queue.specs.Queue.{slots, replySize, octetsOf, payloads, allShort, formed, Pushed, Removed};
+ghost use Rattle.dlc_queue.specs.Send.{dataPackets, Sent, Written};
+use dlc_packet::DATA;
+use dlc_packet::MAX_PAYLOAD;
+use dlc_packet::MODULUS;
+
+// A slot: a payload is the first len octets, the others are free.
+pub struct Payload {
+    pub len: usize,
+    pub octets: [u8; MAX_PAYLOAD],
+}
+
+// The first count slots hold payloads, oldest first; the others are free.
+pub struct Queue {
+    pub count: usize,
+    pub slots: [Payload; Queue::SLOTS],
+}
+
+impl Queue {
+    pub const SLOTS: usize = 7;
+
+    // Octets that all slots take as DATA packets: what a reply buffer must have.
+    pub const REPLY: usize = Queue::SLOTS * (MAX_PAYLOAD + 1);
+
+    // An empty queue.
+    pub fn new() -> Self
+        ensures { λ r. ⌜ (r .count ≡ 0) × (payloads r ≡ []) ⌝ }
+    {
+        let p = Payload {
+            len: 0,
+            octets: [0; MAX_PAYLOAD],
+        };
+        Queue {
+            count: 0,
+            slots: [p; Queue::SLOTS],
+        }
+    }
+
+    // Whether this is a queue: count and lengths within their limits.
+    pub fn well_formed(self) -> bool
+        ensures { λ r. ⌜ r ≡ formed self ⌝ }
+    {
+        let n = self.count;
+        if Queue::SLOTS < n {
+            return false;
+        }
+        let slots = self.slots;
+        all_short(slots, n)
+    }
+
+    // Queues p behind the others; without room for it, or where it is too long, the queue comes back as it is.
+    pub fn push(mut self, p: &[u8]) -> Queue
+        ensures { λ r. ⌜ Pushed self (now (p .entry)) r ⌝ }
+    {
+        let n = self.count;
+        if Queue::SLOTS <= n {
+            return self;
+        }
+        if MAX_PAYLOAD < p.len() {
+            return self;
+        }
+        let x = payload_of(p);
+        self.slots[n] = x;
+        self.count = n + 1;
+        self
+    }
+
+    // Removes the n oldest payloads; where there are fewer, or this is no queue, it comes back as it is.
+    pub fn remove(self, n: usize) -> Queue
+        ensures { λ r. ⌜ Removed self n r ⌝ }
+    {
+        let count = self.count;
+        if Queue::SLOTS < count {
+            return self;
+        }
+        if count < n {
+            return self;
+        }
+        let slots = self.slots;
+        let moved = moved_down(slots, count, n);
+        Queue {
+            count: count - n,
+            slots: moved,
+        }
+    }
+
+    // Writes every payload as a DATA packet to the front of reply, oldest first, the oldest with the number base; returns the lengths.
+    pub fn send(self, base: u8, reply: &mut [u8]) -> [usize; Queue::SLOTS]
+        ensures { λ r. ⌜ Sent self base (now (reply .entry)) (now (reply .exit)) r ⌝ }
+    {
+        if self.well_formed() {
+            if MODULUS <= base {
+                return [0; Queue::SLOTS];
+            }
+            if reply.len() < Queue::REPLY {
+                return [0; Queue::SLOTS];
+            }
+            let n = self.count;
+            let slots = self.slots;
+            send_slots(slots, n, base, reply)
+        } else {
+            [0; Queue::SLOTS]
+        }
+    }
+}
+
+// Whether none of the first n payloads is too long.
+fn all_short(q: [Payload; Queue::SLOTS], n: usize) -> bool
+    requires { ⌜ n ≤ slots ⌝ }
+    ensures { λ r. ⌜ r ≡ allShort (take n q) ⌝ }
+{
+    let mut i = 0;
+    while i < n {
+        let p = q[i];
+        let len = p.len;
+        if MAX_PAYLOAD < len {
+            return false;
+        }
+        i += 1;
+    }
+    true
+}
+
+// A payload that holds the octets of p.
+fn payload_of(p: &[u8]) -> Payload
+    requires { ⌜ length (now p) ≤ maxPayload ⌝ }
+    ensures { λ r. ⌜ (r .len ≡ length (now (p .entry))) × (octetsOf r ≡ now (p .entry)) ⌝ }
+{
+    let mut octets = [0u8; MAX_PAYLOAD];
+    let mut i = 0;
+    while i < p.len() {
+        octets[i] = p[i];
+        i += 1;
+    }
+    Payload {
+        len: i,
+        octets: octets,
+    }
+}
+
+// The first count payloads without the n oldest, moved down to the front.
+fn moved_down(q: [Payload; Queue::SLOTS], count: usize, n: usize) -> [Payload; Queue::SLOTS]
+    requires { ⌜ (n ≤ count) × (count ≤ slots) ⌝ }
+    ensures { λ r. ⌜ take (count - n) r ≡ drop n (take count q) ⌝ }
+{
+    let mut r = q;
+    let mut i = 0;
+    let mut j = n;
+    while j < count {
+        let p = q[j];
+        r[i] = p;
+        i += 1;
+        j += 1;
+    }
+    r
+}
+
+// Writes the octets of p into out from index at on.
+fn copy_octets(p: Payload, out: &mut [u8], at: usize)
+    requires { ⌜ (p .len ≤ maxPayload) × (at + p .len ≤ length (now out)) ⌝ }
+    ensures { λ _. ⌜ now (out .exit) ≡ sets (now (out .entry)) at (octetsOf p) ⌝ }
+{
+    let len = p.len;
+    let mut j = 0;
+    let mut o = at;
+    while j < len {
+        out[o] = p.octets[j];
+        o += 1;
+        j += 1;
+    }
+}
+
+// Writes DATA x with the octets of p at index at, and returns the packet's length.
+fn put_data(p: Payload, x: u8, out: &mut [u8], at: usize) -> usize
+    requires { ⌜ (p .len ≤ maxPayload) × ((x < modulus) × (at + 1 + p .len ≤ length (now out))) ⌝ }
+    ensures { λ r. ⌜ (r ≡ 1 + p .len) × (now (out .exit) ≡ sets (now (out .entry)) at (dataPacket x (octetsOf p))) ⌝ }
+{
+    out[at] = DATA + x;
+    copy_octets(p, out, at + 1);
+    let len = p.len;
+    1 + len
+}
+
+// Writes the first n payloads as DATA packets with the numbers from base on, and returns their lengths.
+fn send_slots(
+    q: [Payload; Queue::SLOTS],
+    n: usize,
+    base: u8,
+    out: &mut [u8],
+) -> [usize; Queue::SLOTS]
+    requires { ⌜ (n ≤ slots) × ((allShort (take n q) ≡ true) × ((base < modulus) × (replySize ≤ length (now out)))) ⌝ }
+    ensures { λ r. ⌜ Written (dataPackets base (map octetsOf (take n q))) (now (out .entry)) (now (out .exit)) r ⌝ }
+{
+    let mut lengths = [0usize; Queue::SLOTS];
+    let mut x = base;
+    let mut at = 0;
+    let mut i = 0;
+    while i < n {
+        let p = q[i];
+        let k = put_data(p, x, out, at);
+        lengths[i] = k;
+        at += k;
+        x = dlc_packet::advanced(x, 1);
+        i += 1;
+    }
+    lengths
+}

@@ -1,0 +1,90 @@
+-- Rules to which the theorem applies, runs that meet its bound, and why sixteen slots are too many. By computation. Assumes nothing.
+use Prim.Native.Nat.{ℕ, _+_, _-_, _*_, _%_, _≤_, _<_}
+use mathlib.Core.Path.{_≡_, refl}
+use mathlib.Core.Bool.{Bool, true, false}
+use mathlib.Core.List.{List, [], _∷_, _++_}
+use native.Mathlib.Omega.{arith}
+use lib.ListN.{length, replicate}
+use Rattle.dlc_packet.specs.Numbers.{dackNumber, distance}
+use Rattle.dlc_packet.proofs.Numbers.{distance-dackNumber}
+use Rattle.window.specs.Sides.{Side, left, right}
+use Rattle.window.specs.Packets.{modulus}
+use Rattle.window.specs.Ends.{Rules, Lawful}
+use Rattle.window.specs.Events.{Act, offer, timeout, receive, lose, Event, start, run, TimerWaits}
+use Rattle.window.specs.Claim.{SlidingWindow}
+use Rattle.window.proofs.SlidingWindow.{sliding-window}
+use Rattle.window.proofs.Deciding.{timerWaits-true}
+
+-- ---- rules: a window, whether payloads are sent at once, and the paper's DACK, which carries the number expected
+abbrev pub expecting : ℕ → Bool → Rules
+expecting w once = record { window = w; atOnce = once; dackNumber = dackNumber; distance = distance }
+
+pub expecting-lawful : (w : ℕ) (once : Bool) → w < modulus → Lawful (expecting w once)
+expecting-lawful w once h = record { below = h; distance = distance-dackNumber }
+
+-- a DACK that carries the last number delivered, one less than the one expected ("through x")
+abbrev pub through : ℕ → Bool → Rules
+through w once = record { window = w; atOnce = once; dackNumber = λ x. (x + 15) % modulus; distance = λ b x. (x + 1 + modulus - b) % modulus }
+
+through-distance : (b k : ℕ) → b ≤ k → k < b + modulus → ((k % modulus + 15) % modulus + 1 + modulus - b % modulus) % modulus ≡ k - b
+through-distance b k h l = omega arith
+
+pub through-lawful : (w : ℕ) (once : Bool) → w < modulus → Lawful (through w once)
+through-lawful w once h = record { below = h; distance = through-distance }
+
+-- seven slots as in the paper; fifteen, payloads sent at once, and the other DACK
+pub seven : (es : List Event) → SlidingWindow (expecting 7 false) es
+seven es = sliding-window (expecting 7 false) (expecting-lawful 7 false (omega arith)) es
+
+pub fifteen : (es : List Event) → SlidingWindow (through 15 true) es
+fifteen es = sliding-window (through 15 true) (through-lawful 15 true (omega arith)) es
+
+-- ---- runs
+abbrev pub at : Side → Act → Event
+at d a = record { side = d; act = a }
+
+abbrev pub times : ℕ → Side → Act → List Event
+times n d a = replicate n (at d a)
+
+-- w payloads are sent and the first is lost; the others are answered, and all are sent again: sent = w + w * lost, with the timer waiting
+abbrev tight : ℕ → List Event
+tight w =
+    times w left (offer true (5 ∷ []))
+    ++ (at left (timeout true) ∷ at left (lose 0) ∷ [])
+    ++ times (w - 1) right (receive true)
+    ++ times (w - 1) left (receive true)
+    ++ (at left (timeout true) ∷ [])
+
+pub tight-sent : run (expecting 7 false) (tight 7) start .left .sender .sent ≡ 7 + 7 * run (expecting 7 false) (tight 7) start .left .sender .lost
+tight-sent = refl
+
+pub tight-waits : TimerWaits (expecting 7 false) left (tight 7) start
+tight-waits = timerWaits-true (expecting 7 false) left (tight 7) start tt
+
+-- with fifteen slots it is fifteen for each lost
+pub tight-fifteen : run (expecting 15 false) (tight 15) start .left .sender .sent ≡ 15 + 15 * run (expecting 15 false) (tight 15) start .left .sender .lost
+tight-fifteen = refl
+
+-- ---- sixteen slots. Sixteen payloads are sent and delivered, and no DACK comes back. The timer sends all sixteen again: the first has the
+-- number 0, which the receiver expects again, and is delivered a second time: 17 delivered of 16 accepted. With fifteen slots the same run is
+-- right: the receiver expects 15, and no slot has that number
+abbrev again : ℕ → List Event
+again w =
+    times w left (offer true (7 ∷ []))
+    ++ (at left (timeout true) ∷ [])
+    ++ times w right (receive true)
+    ++ times w right (lose 0)
+    ++ (at left (timeout true) ∷ at right (receive true) ∷ [])
+
+pub sixteen-accepted : length (run (expecting 16 false) (again 16) start .left .sender .accepted) ≡ 16
+sixteen-accepted = refl
+
+pub sixteen-delivered : length (run (expecting 16 false) (again 16) start .right .receiver .delivered) ≡ 17
+sixteen-delivered = refl
+
+-- and the timer had waited
+pub sixteen-waits : TimerWaits (expecting 16 false) left (again 16) start
+sixteen-waits = timerWaits-true (expecting 16 false) left (again 16) start tt
+
+pub fifteen-delivered : length (run (expecting 15 false) (again 15) start .right .receiver .delivered) ≡ 15
+fifteen-delivered = refl

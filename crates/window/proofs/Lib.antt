@@ -1,0 +1,14 @@
+pub mod Cases
+pub mod Rising
+pub mod InFlight
+pub mod Window
+pub mod Count
+pub mod Marks
+pub mod Flow
+pub mod Invariant
+pub mod Receive
+pub mod SlidingWindow
+pub mod Exchange
+pub mod Progress
+pub mod Deciding
+pub mod Instances

@@ -1,0 +1,5 @@
+pub mod Sides
+pub mod Packets
+pub mod Ends
+pub mod Events
+pub mod Claim
