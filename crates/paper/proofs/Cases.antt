@@ -4,6 +4,7 @@ use Rattle.qaft.specs.Escape.{isEscaped, escapeOne, escape}
 use Rattle.qaft.specs.Check.{sum, checkOctet}
 use Rattle.qaft.specs.Frame.{body, frame}
 use Rattle.qaft_laws.specs.Reports.{afterFlag, atFront, segments, onto, unescape, judge, reportsOfSegment, reportsOfSegments, reportsOf}
+use Rattle.dlc.specs.Events.{arrivalOf}
 use Rattle.fcs.specs.Fcs.{feedBit, feedBits, feed, feedAll, checkSequence}
 use Rattle.ids.specs.Id.{validId, validSuffix, callsignLength, allGraphic, isCallsign, isGraphic}
 use Rattle.sums.specs.Sum.{sumFrom, nextStationSum, headerSum}
@@ -12,5 +13,5 @@ use Rattle.afp_write.specs.Frame.{frameOf, headerBefore, headerOf, withCheck}
 use Rattle.paper.specs.Table.{Each, table}
 
 pub cases : Each table
-unfolding table frame body escape escapeOne isEscaped checkOctet sum reportsOf reportsOfSegments reportsOfSegment judge unescape onto segments atFront afterFlag sumFrom frameOf withCheck headerOf headerBefore headerSum nextOffset nextStationSum stationsOf stationsFrom nextAfter closedAt validId validSuffix callsignLength allGraphic isCallsign isGraphic checkSequence feedAll feed feedBits feedBit
-cases = (refl, (refl, (refl, (refl, (refl, (refl, (refl, (refl, (refl, (refl, (refl, (refl, tt))))))))))))
+unfolding table frame body escape escapeOne isEscaped checkOctet sum reportsOf reportsOfSegments reportsOfSegment judge unescape onto segments atFront afterFlag arrivalOf sumFrom frameOf withCheck headerOf headerBefore headerSum nextOffset nextStationSum stationsOf stationsFrom nextAfter closedAt validId validSuffix callsignLength allGraphic isCallsign isGraphic checkSequence feedAll feed feedBits feedBit
+cases = (refl, (refl, (refl, (refl, (refl, (refl, (refl, (refl, (refl, (refl, (refl, (refl, (refl, (refl, tt))))))))))))))

@@ -1,8 +1,13 @@
 -- The cases that document 01 marks [P], worked on paper, as one table over the definitions that the contracts cite. Assumes nothing.
 use Prim.Native.Nat.{ℕ}
 use mathlib.Core.Path.{_≡_}
-use mathlib.Core.Bool.{false}
+use mathlib.Core.Bool.{true, false}
 use mathlib.Core.List.{List, [], _∷_, _++_}
+use Rattle.dlc.specs.declared.State.the-variants.{Data, Wait}
+use Rattle.dlc.specs.Limits.{replySize, dackPacket}
+use Rattle.dlc.specs.Answers.{done, noEntry}
+use Rattle.dlc.specs.Model.{Model}
+use Rattle.dlc.specs.Events.{Effect, effect, refuse, arrivalOf}
 use Rattle.sums.specs.Sum.{sumFrom}
 use Rattle.afp_write.specs.Frame.{frameOf}
 use Rattle.qaft.specs.Escape.{flag}
@@ -15,6 +20,8 @@ pub data Case : Type 0 where
   writes : (level : ℕ) (d l : List ℕ) → Case
   -- a stretch between two flags, and its report
   reports : (s : List ℕ) → Reported → Case
+  -- DLC: a link to which a packet comes, with a reply buffer that is just large enough, and what the event does
+  arrives : (m : Model) (packet : List ℕ) → Effect → Case
   -- AFP: octets and their sum
   sums : (xs : List ℕ) (s : ℕ) → Case
   -- AFP: protocol, station fields, next ID's number, supplementary header; the header of a frame with no data, check octets behind it
@@ -24,6 +31,7 @@ pub data Case : Type 0 where
 abbrev pub Holds : Case → Type 0
 Holds (writes level d l) = frame level false d ≡ l
 Holds (reports s p) = reportsOf (flag ∷ s ++ (flag ∷ [])) ≡ p ∷ []
+Holds (arrives m packet e) = arrivalOf m packet replySize ≡ e
 Holds (sums xs s) = sumFrom 0 xs ≡ s
 Holds (heads p s n h header check) = frameOf p s n h [] ≡ header ++ check
 
@@ -31,6 +39,14 @@ Holds (heads p s n h header check) = frameOf p s n h [] ≡ header ++ check
 abbrev pub Each : List Case → Type 0
 Each [] = Unit
 Each (k ∷ ks) = Holds k × Each ks
+
+-- "DLDWAIT, numbers 14 and 15 queued"
+abbrev pub waiting : Model
+waiting = record { ok = true; state = Wait; queue = (1 ∷ []) ∷ (2 ∷ []) ∷ []; base = 14; expected = 0 }
+
+-- the same link with its queue emptied
+abbrev pub emptied : Model
+emptied = record { ok = true; state = Data; queue = []; base = 0; expected = 0 }
 
 -- "Worked on paper", in the paper's order
 unfoldable pub table : List Case
@@ -45,6 +61,8 @@ table =
     ∷ reports (0x10 ∷ 0x7D ∷ []) aborted
     ∷ reports (0x00 ∷ []) short
     ∷ reports (0x41 ∷ 0xBE ∷ []) badCheck
+    ∷ arrives waiting (dackPacket 0) (effect done [] emptied)
+    ∷ arrives waiting (dackPacket 1) (refuse waiting noEntry)
     ∷ sums (0x04 ∷ 0x41 ∷ 0x42 ∷ 0x31 ∷ 0x43 ∷ []) 0xFB
     ∷ heads 0xF0 (0x04 ∷ 0x41 ∷ 0x42 ∷ 0x31 ∷ 0x43 ∷ 0x00 ∷ []) 0 []
     (0xFF ∷ 0x01 ∷ 0xF0 ∷ 0x0C ∷ 0x00 ∷ 0x04 ∷ 0x41 ∷ 0x42 ∷ 0x31 ∷ 0x43 ∷ 0x00 ∷ 0xF9 ∷ [])
