@@ -120,7 +120,7 @@ module _ (f : List ℕ) (ok : Passed (refusals f)) where
         ids-some = omega (arith, some);
         ids-valid = valid;
         next-alone = number-alone n is valid some found;
-        next-later = λ l. number-later n is valid some found (not-zero l);
+        next-later = λ l. let q = number-later n is valid some found (not-zero l) in (omega arith, omega arith);
         supplementary-valid = ap validSupplementary octets-are ∙ supplementary-valid f ok;
         header-long = omega arith;
         header-short = omega arith;

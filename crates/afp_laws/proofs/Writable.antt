@@ -79,6 +79,7 @@ proper-writable m room q long =
     let s = fieldsOf (m .ids) in
     let h = supplementaryOctets (m .supplementary) in
     let p = fields-some (m .ids) in
+    let later : 2 ≤ length (m .ids) → (2 ≤ m .next) × (m .next ≤ length (m .ids)) = λ l. let z = q .next-later l in (omega arith, omega arith) in
     let e : stationsOf 0 (m .next) (fieldsOf (m .ids)) .end ≡ length (fieldsOf (m .ids)) = end-is (m .ids) (m .next) (q .ids-some) (q .ids-valid) in
     passed-append (partRefusals (m .protocol) s (stationsOf 0 n s) n h) (sizeRefusals (length s) (length h) (length (m .payload)) room) (
       lt-leb firstReserved (m .protocol) (q .protocol-free),
@@ -87,8 +88,8 @@ proper-writable m room q long =
         (
           ap not (eq-eqb (stationsOf 0 n s .end) (length s) e),
           (
-            ap not (eq-eqb (stationsOf 0 n s .next .number) n (number-is is n (q .ids-some) (q .ids-valid) (q .next-alone) (q .next-later))),
-            (not-lacking is n (q .ids-some) (q .ids-valid) (q .next-alone) (q .next-later), (ap not (q .supplementary-valid), tt)),
+            ap not (eq-eqb (stationsOf 0 n s .next .number) n (number-is is n (q .ids-some) (q .ids-valid) (q .next-alone) later)),
+            (not-lacking is n (q .ids-some) (q .ids-valid) (q .next-alone) later, (ap not (q .supplementary-valid), tt)),
           ),
         ),
       ),

@@ -5,7 +5,7 @@ use mathlib.Core.List.{List, [], _∷_, _++_}
 use Prim.Native.Nat.{ℕ, zero, suc, _+_, _-_, _*_, _/_, _%_, _^_, _<_}
 use native.Mathlib.Omega.{arith}
 use lib.Bits.{bitXor, xor-lt, xor-comm}
-use lib.Dec.{eqb→eq, lit<}
+use lib.Dec.{lit<}
 use Rattle.fcs.specs.Fcs.{preset, residue, feed, feedAll, checkSequence, checkOctets}
 use Rattle.fcs.specs.Words.{shiftBit, shiftBits, littleEndian}
 use Rattle.fcs.proofs.Xor.{xor-complement, xor-left}
@@ -14,7 +14,7 @@ use Rattle.fcs.proofs.Register.{Octets, shifts-injective, feed-shift, f
 -- ---- two octets after a register
 residue-is : shiftBits 16 0xFFFF ≡ residue
 unfolding shiftBits shiftBit
-residue-is = eqb→eq (shiftBits 16 0xFFFF) residue tt
+residue-is = cc
 
 pair : (a b : ℕ) → a < 256 → b < 256 → Octets (a ∷ b ∷ [])
 pair a b ha hb zero = ha

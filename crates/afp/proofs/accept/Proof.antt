@@ -36,7 +36,7 @@ shared-slice-read-t12 c = search needs
 
 returns : tie.Need-returns
 unfolding acceptedReading
-returns c = rw (← c .before .before .before .size .ensures)
+returns c = cc
 
 pub accept-spec : {M : Type 1} → statement M
 accept-spec =

@@ -55,7 +55,7 @@ returns c =
     let right-header-sum = c .before .before .right-header-sum in
     let if2 = c .before .if2 in
     rest-data (args .f .now) (args .end) (size .result) (size .ensures) (valid-supplementary .result) (valid-supplementary .ensures) (if1 .taken)
-    (right-header-sum .result) (right-header-sum .ensures) (if2 .taken) (omega arith)
+    (right-header-sum .result) (cc) (if2 .taken) (omega arith)
 
 returns-2 : tie.Need-returns-2
 returns-2 c =
@@ -66,7 +66,7 @@ returns-2 c =
     let right-header-sum = c .before .before .right-header-sum in
     let if2 = c .before .if2 in
     rest-done (args .f .now) (args .end) (size .result) (size .ensures) (valid-supplementary .result) (valid-supplementary .ensures) (if1 .taken)
-    (right-header-sum .result) (right-header-sum .ensures) (if2 .taken) (omega arith)
+    (right-header-sum .result) (cc) (if2 .taken) (omega arith)
 
 returns-3 : tie.Need-returns-3
 returns-3 c =
@@ -76,7 +76,7 @@ returns-3 c =
     let if1 = c .before .before .before .before .if1 in
     let right-header-sum = c .before .right-header-sum in
     rest-sum (args .f .now) (args .end) (size .result) (size .ensures) (valid-supplementary .result) (valid-supplementary .ensures) (if1 .taken)
-    (right-header-sum .result) (right-header-sum .ensures) (c .if2 .left)
+    (right-header-sum .result) (cc) (c .if2 .left)
 
 returns-4 : tie.Need-returns-4
 returns-4 c =

@@ -38,7 +38,7 @@ returns c =
     let args = c .before .before .before .before .before .before .before .before .args in
     let size = c .before .before .before .before .before .size in
     let size2 = c .before .before .size2 in
-    c .parse .ensures ∙ stations-low (args .f .now) (size .result) (size2 .result) (size .ensures) (size2 .ensures) (omega arith)
+    cc (stations-low (args .f .now) (size .result) (size2 .result) (size .ensures) (size2 .ensures) (omega arith))
 
 parse-requires-2 : tie.Need-parse-requires-2
 parse-requires-2 c κs = search needs

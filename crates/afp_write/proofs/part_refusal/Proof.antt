@@ -26,7 +26,7 @@ returns-4 c =
     let args = c .before .before .before .before .before .before .before .args in
     let if2 = c .before .before .before .if2 in
     let if3 = c .before .before .if3 in
-    part-next (args .p) (args .s .now) (args .r) (args .n) (args .h .now) (omega arith) (if2 .left) (if3 .left) (c .if4 .taken)
+    part-next (args .p) (args .s .now) (args .r) (args .n) (args .h .now) (omega arith) (if2 .left) (if3 .left) (λ e. c .if4 .taken (omega arith))
 
 lacks-next-requires : tie.Need-lacks-next-requires
 lacks-next-requires c κs = search needs
@@ -38,7 +38,7 @@ returns-5 c =
     let if3 = c .before .before .before .before .if3 in
     let if4 = c .before .before .if4 in
     let lacks-next = c .before .lacks-next in
-    part-lacks (args .p) (args .s .now) (args .r) (args .n) (args .h .now) (omega arith) (if2 .left) (if3 .left) (if4 .left)
+    part-lacks (args .p) (args .s .now) (args .r) (args .n) (args .h .now) (omega arith) (if2 .left) (if3 .left) (omega arith)
     (lacks-next .result) (lacks-next .ensures) (c .if5 .taken)
 
 valid-supplementary-requires : tie.Need-valid-supplementary-requires
@@ -53,7 +53,7 @@ returns-6 c =
     let lacks-next = c .before .before .before .lacks-next in
     let valid-supplementary = c .before .valid-supplementary in
     let if5 = c .before .before .if5 in
-    part-done (args .p) (args .s .now) (args .r) (args .n) (args .h .now) (omega arith) (if2 .left) (if3 .left) (if4 .left)
+    part-done (args .p) (args .s .now) (args .r) (args .n) (args .h .now) (omega arith) (if2 .left) (if3 .left) (omega arith)
     (lacks-next .result) (lacks-next .ensures) (if5 .left) (valid-supplementary .result) (valid-supplementary .ensures) (c .if6 .taken)
 
 returns-7 : tie.Need-returns-7
@@ -65,7 +65,7 @@ returns-7 c =
     let lacks-next = c .before .before .before .lacks-next in
     let valid-supplementary = c .before .valid-supplementary in
     let if5 = c .before .before .if5 in
-    part-supplementary (args .p) (args .s .now) (args .r) (args .n) (args .h .now) (omega arith) (if2 .left) (if3 .left) (if4 .left)
+    part-supplementary (args .p) (args .s .now) (args .r) (args .n) (args .h .now) (omega arith) (if2 .left) (if3 .left) (omega arith)
     (lacks-next .result) (lacks-next .ensures) (if5 .left) (valid-supplementary .result) (valid-supplementary .ensures) (c .if6 .left)
 
 pub part-refusal-spec : {M : Type 1} → statement M

@@ -45,7 +45,7 @@ returns c =
     let q₂ = c .before .before .put in (
       omega arith,
       header-put (a .p) (a .x) s h (a .out .now) (y .result ∷ []) (q₁ .last .1 .1 .1 .1 .0) (q₂ .last .1 .0) (q₁ .result) (y .result)
-          (q₁ .ensures .0) (q₁ .ensures .1) (y .ensures) refl (q₂ .ensures .1) (omega arith),
+          (q₁ .ensures .0) (q₁ .ensures .1) (y .ensures) refl (cc) (omega arith),
     )
 
 pub put-header-spec : {M : Type 1} → statement M
