@@ -1,6 +1,5 @@
 -- `controls`: a loop of sixteen turns. Assumes nothing.
 use Prim.Native.Nat.{_-_}
-use native.Mathlib.Omega.{arith}
 use borrow.Author.Needs.{needs}
 use Rattle.dlc_cases.proofs.controls.Statement.{statement}
 use Rattle.dlc_cases.proofs.controls.Tie as tie

@@ -1,6 +1,5 @@
 -- `filled`: a loop of n turns. Assumes nothing.
 use Prim.Native.Nat.{_-_}
-use native.Mathlib.Omega.{arith}
 use borrow.Author.Needs.{needs}
 use Rattle.dlc_cases.proofs.filled.Statement.{statement}
 use Rattle.dlc_cases.proofs.filled.Tie as tie

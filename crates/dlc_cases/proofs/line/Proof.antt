@@ -1,6 +1,5 @@
 -- `line`: a loop of twenty turns. Assumes nothing.
 use Prim.Native.Nat.{_-_}
-use native.Mathlib.Omega.{arith}
 use borrow.Author.Needs.{needs}
 use Rattle.dlc_cases.proofs.line.Statement.{statement}
 use Rattle.dlc_cases.proofs.line.Tie as tie

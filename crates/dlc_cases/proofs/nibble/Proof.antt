@@ -1,6 +1,5 @@
 -- `nibble`: a loop of sixteen turns. Assumes nothing.
 use Prim.Native.Nat.{_-_}
-use native.Mathlib.Omega.{arith}
 use borrow.Author.Needs.{needs}
 use Rattle.dlc_cases.proofs.nibble.Statement.{statement}
 use Rattle.dlc_cases.proofs.nibble.Tie as tie

@@ -1,6 +1,5 @@
 -- `numbers`: a loop of eighteen turns. Assumes nothing.
 use Prim.Native.Nat.{_-_}
-use native.Mathlib.Omega.{arith}
 use borrow.Author.Needs.{needs}
 use Rattle.dlc_cases.proofs.numbers.Statement.{statement}
 use Rattle.dlc_cases.proofs.numbers.Tie as tie

@@ -1,6 +1,5 @@
 -- `octets`: a loop of nine turns. Assumes nothing.
 use Prim.Native.Nat.{_-_}
-use native.Mathlib.Omega.{arith}
 use borrow.Author.Needs.{needs}
 use Rattle.dlc_cases.proofs.octets.Statement.{statement}
 use Rattle.dlc_cases.proofs.octets.Tie as tie

@@ -1,6 +1,5 @@
 -- `packets`: a loop of seven turns. Assumes nothing.
 use Prim.Native.Nat.{_-_}
-use native.Mathlib.Omega.{arith}
 use borrow.Author.Needs.{needs}
 use Rattle.dlc_cases.proofs.packets.Statement.{statement}
 use Rattle.dlc_cases.proofs.packets.Tie as tie
