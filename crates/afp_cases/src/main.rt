@@ -141,7 +141,7 @@ fn print_writing(p: u8, s: &[u8], n: usize, h: &[u8], d: &[u8], out: &mut [u8]) 
     fill(out);
     let w = afp_write::write(p, s, n, h, d, out);
     let no = w.number;
-    let count = w.count;
+    let count = w.length;
     print_number(size(no));
     print_number(count);
     print_slice(out);

@@ -89,5 +89,5 @@ module _ (m : Parts) where
 
       pub sent-is : sent m out ≡ encode m
       sent-is =
-          ap₂ (λ (k : ℕ) (o : List ℕ). take k o) (ap (λ (w : Written). w .count) answer-is) buffer-is
+          ap₂ (λ (k : ℕ) (o : List ℕ). take k o) (ap (λ (w : Written). w .length) answer-is) buffer-is
           ∙ take-withFront (encode m) out (length (encode m)) refl

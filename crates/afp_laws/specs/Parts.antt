@@ -37,7 +37,7 @@ abbrev pub buffer : Parts → List ℕ → List ℕ
 buffer m out = bufferOf (m .protocol) (m .stations) (m .next) (m .supplementary) (m .payload) out
 
 abbrev pub sent : Parts → List ℕ → List ℕ
-sent m out = take (answer m out .count) (buffer m out)
+sent m out = take (answer m out .length) (buffer m out)
 
 -- ---- reading
 unfoldable pub partsIn : List ℕ → Parts

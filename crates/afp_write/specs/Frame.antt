@@ -69,10 +69,10 @@ writeRefusals p s n h d room = partRefusals p s (stationsOf 0 n s) n h ++ sizeRe
 -- ---- what the writer does
 -- a refusal, and a written frame with its length
 abbrev pub refusedWriting : ℕ → Written
-refusedWriting k = record { number = k; count = 0 }
+refusedWriting k = record { number = k; length = 0 }
 
 abbrev pub written : ℕ → Written
-written k = record { number = 0; count = k }
+written k = record { number = 0; length = k }
 
 unfoldable pub writeOf : (p : ℕ) (s : List ℕ) (n : ℕ) (h d out : List ℕ) → Written
 writeOf p s n h d out = guarded (writeRefusals p s n h d (length out)) refusedWriting (written (length (frameOf p s n h d)))

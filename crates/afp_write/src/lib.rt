@@ -21,7 +21,7 @@ const SHORT_BUFFER: u8 = 41;
 #[repr(C)]
 pub struct Written {
     pub number: u8,
-    pub count: usize,
+    pub length: usize,
 }
 
 // The octets of a slice at a place of the buffer; the place behind them.
@@ -158,7 +158,7 @@ fn refuse(number: u8) -> Written
 {
     Written {
         number: number,
-        count: 0,
+        length: 0,
     }
 }
 
@@ -181,6 +181,6 @@ pub fn write(p: u8, s: &[u8], n: usize, h: &[u8], d: &[u8], out: &mut [u8]) -> W
     let count = put_frame(p, x, s, h, d, out);
     Written {
         number: 0,
-        count: count,
+        length: count,
     }
 }
