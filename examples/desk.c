@@ -88,6 +88,54 @@ static void check_cases(void)
     }
 }
 
+static void print_answer(hasfandur_qaft_answer a, const uint8_t *buffer)
+{
+    printf("  %u, took %zu, state %d %d %zu %02X", (unsigned)a.number, a.taken, a.reader.synced, a.reader.pending,
+           a.reader.count, a.reader.sum);
+    if (a.number == HASFANDUR_FRAME) {
+        printf(", data");
+        print_octets(buffer, a.length);
+    }
+    printf("\n");
+}
+
+/* Reads a line in two chunks, handing on the rest of each after a report. */
+static void read_case(const char *name, uint8_t level, const uint8_t *line, size_t cut, size_t length)
+{
+    static uint8_t buffer[HASFANDUR_QAFT_BUFFER];
+    const size_t ends[] = {cut, length};
+    hasfandur_qaft_reader state = hasfandur_qaft_fresh(level);
+    size_t at = 0;
+    printf("%s\n", name);
+    for (size_t k = 0; k < 2; k++) {
+        hasfandur_qaft_answer a;
+        do {
+            a = hasfandur_qaft_read(state, line + at, ends[k] - at, buffer, sizeof buffer);
+            state = a.reader;
+            at += a.taken;
+            print_answer(a, buffer);
+        } while (HASFANDUR_FRAME <= a.number && a.number <= HASFANDUR_BAD_CHECK);
+    }
+}
+
+static void read_cases(void)
+{
+    /* the paper's example, cut behind a 7D */
+    static const uint8_t line[] = {0xAA, 0x7E, 0x40, 0x41, 0x7F, 0x7E, 0x10, 0x7D, 0x7E, 0x7E, 0x05, 0x7E, 0x33};
+    static const uint8_t pair[] = {0x7E, 0x7D, 0x5E, 0x82, 0x7E, 0x41, 0xBE, 0x7E};
+    static uint8_t buffer[HASFANDUR_QAFT_BUFFER];
+    read_case("read the paper's line", 0, line, 8, sizeof line);
+    read_case("read 7D 5E 82, cut behind 7D", 1, pair, 2, sizeof pair);
+
+    /* refusals 6, 4, 5, in this order */
+    printf("read refused\n");
+    hasfandur_qaft_reader bad = {2, false, true, 3, 7};
+    print_answer(hasfandur_qaft_read(bad, line, sizeof line, buffer, 2560), buffer);
+    bad.level = 1;
+    print_answer(hasfandur_qaft_read(bad, line, sizeof line, buffer, 2560), buffer);
+    print_answer(hasfandur_qaft_read(bad, line, sizeof line, buffer, sizeof buffer), buffer);
+}
+
 static void sum_cases(void)
 {
     /* worked on paper: FB; and sums that are FF and 0 */
@@ -158,6 +206,7 @@ int main(void)
 {
     write_cases();
     check_cases();
+    read_cases();
     sum_cases();
     afp_cases();
     return 0;

@@ -27,6 +27,16 @@ enum hasfandur_number {
     HASFANDUR_OUT_TOO_SMALL = 3,
     /* QAFT writer and reader */
     HASFANDUR_BAD_LEVEL = 6,
+    /* QAFT reader: refusals, */
+    HASFANDUR_BUFFER_TOO_SMALL = 4,
+    HASFANDUR_BAD_STATE = 5,
+    /* reports, and a chunk used up without a report */
+    HASFANDUR_FRAME = 10,
+    HASFANDUR_ABORTED = 11,
+    HASFANDUR_LONG = 12,
+    HASFANDUR_SHORT = 13,
+    HASFANDUR_BAD_CHECK = 14,
+    HASFANDUR_USED_UP = 15,
     /* AFP reader, in this order; the writer gives 33, 35, 36, 38, 34, 40, 41 */
     HASFANDUR_AFP_BAD_LENGTH = 30,
     HASFANDUR_AFP_BAD_CHECK = 31,
@@ -46,6 +56,9 @@ enum hasfandur_number {
 #define HASFANDUR_QAFT_MAX_DATA 2560
 /* An out buffer of this size has room for every frame. */
 #define HASFANDUR_QAFT_MAX_FRAME 5124
+
+/* The QAFT reader's buffer has at least this many octets: data and check of the longest frame. */
+#define HASFANDUR_QAFT_BUFFER 2561
 
 /* An AFP frame has 14 to this many octets, of them up to 2,304 data octets and a header of 12 to 254. */
 #define HASFANDUR_AFP_MAX_FRAME 2560
@@ -74,6 +87,41 @@ uint8_t hasfandur_qaft_check(const uint8_t *octets, size_t length);
  */
 hasfandur_written hasfandur_qaft_write(uint8_t level, bool at_flag, const uint8_t *data, size_t data_length, uint8_t *out,
                                        size_t out_length);
+
+/*
+ * The QAFT reader's state, which goes from call to call by value: level; whether a flag has come; whether a 7D waits for
+ * its partner; octets of the segment so far, escapes undone, 2,562 for all above; their sum modulo 256.
+ */
+typedef struct hasfandur_qaft_reader {
+    uint8_t level;
+    bool synced;
+    bool pending;
+    size_t count;
+    uint8_t sum;
+} hasfandur_qaft_reader;
+
+/* The reader's answer: report or refusal; octets of the chunk taken; data octets at the front of the buffer (0 unless the
+ * report is HASFANDUR_FRAME); the state for the next call. */
+typedef struct hasfandur_qaft_answer {
+    uint8_t number;
+    size_t taken;
+    size_t length;
+    hasfandur_qaft_reader reader;
+} hasfandur_qaft_answer;
+
+/* The state before any flag. */
+hasfandur_qaft_reader hasfandur_qaft_fresh(uint8_t level);
+
+/*
+ * Reads a chunk of a line up to its first report. Hand the rest of the chunk, from `taken` on, to the next call, with the
+ * state that came back and the same buffer; after HASFANDUR_USED_UP go on with the next chunk. Octets are stored in the
+ * buffer as they come, escapes undone; the reader judges by its state alone.
+ *
+ * Refusals, the first that applies: HASFANDUR_BAD_LEVEL, HASFANDUR_BUFFER_TOO_SMALL (under HASFANDUR_QAFT_BUFFER octets),
+ * HASFANDUR_BAD_STATE (a state that no line leads to). A refusal takes nothing, writes nothing, and gives the state back.
+ */
+hasfandur_qaft_answer hasfandur_qaft_read(hasfandur_qaft_reader reader, const uint8_t *chunk, size_t chunk_length,
+                                          uint8_t *buffer, size_t buffer_length);
 
 /*
  * AFP's sum of octets: eight bits with end-around carry, from 0. And the two forms in which a header holds sums: of the

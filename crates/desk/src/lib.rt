@@ -3,6 +3,9 @@
 ghost use mathlib.Core.Path.{_≡_};
 ghost use Rattle.qaft.specs.Check.{checkOctet};
 ghost use Rattle.qaft_write.specs.Write.{writeFrame};
+ghost use Rattle.qaft_read.specs.State.{fresh};
+ghost use Rattle.qaft_read.specs.Read.{read};
+ghost use Rattle.desk.specs.Reading.{inNumbers};
 ghost use Rattle.sums.specs.Sum.{sumFrom, nextStationSum, headerSum};
 ghost use Rattle.fcs.specs.Fcs.{checkSequence};
 ghost use Rattle.afp.specs.Reading.{readOf};
@@ -26,6 +29,42 @@ pub extern "C" fn hasfandur_qaft_write(
     ensures { λ _. ⌜ now (out .exit) ≡ writeFrame level «at_flag» (now («data» .entry)) (now (out .entry)) .buffer ⌝ }
 {
     qaft_write::write_frame(level, at_flag, data, out)
+}
+
+// The reader's answer in plain numbers: the report or refusal, the octets taken, the data octets shown, the later state.
+#[repr(C)]
+pub struct ReadAnswer {
+    pub number: u8,
+    pub taken: usize,
+    pub length: usize,
+    pub reader: qaft_read::Reader,
+}
+
+#[no_mangle]
+pub extern "C" fn hasfandur_qaft_fresh(level: u8) -> qaft_read::Reader
+    ensures { λ r. ⌜ r ≡ fresh level ⌝ }
+{
+    qaft_read::Reader::fresh(level)
+}
+
+#[no_mangle]
+pub extern "C" fn hasfandur_qaft_read(
+    reader: qaft_read::Reader,
+    chunk: &[u8],
+    buffer: &mut [u8],
+) -> ReadAnswer
+    ensures { λ r. ⌜ r ≡ inNumbers (read reader (now (chunk .entry)) (now (buffer .entry)) .answer) ⌝ }
+    ensures { λ _. ⌜ now (buffer .exit) ≡ read reader (now (chunk .entry)) (now (buffer .entry)) .buffer ⌝ }
+{
+    let a = reader.read(chunk, buffer);
+    let outcome = a.outcome;
+    let next = a.reader;
+    ReadAnswer {
+        number: outcome.number(),
+        taken: a.taken,
+        length: outcome.data_length(),
+        reader: next,
+    }
 }
 
 #[no_mangle]

@@ -11,6 +11,7 @@ ghost use Rattle.qaft_read.specs.Step.{stored, inSegment, step};
 ghost use Rattle.qaft_read.specs.Read.{scanCall, read};
 ghost use Rattle.qaft_read.specs.Answer.{reportNumber, number, reportLength, dataLength, shown};
 
+#[repr(C)]
 pub struct Reader {
     pub level: u8,
     pub synced: bool,
