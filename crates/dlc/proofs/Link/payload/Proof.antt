@@ -51,7 +51,7 @@ returns-3 c =
     (c .silent3 .ensures)
 
 with-payload-requires : tie.Need-with-payload-requires
-with-payload-requires c κs = (ok (c .before .before .before .before .before), (c .if4 .left, c .before .before .before .before .if2 .left))
+with-payload-requires c κs = (ok (c .before .before .before .before .before), (omega (arith, c .if4 .left), c .before .before .before .before .if2 .left))
 
 silent-requires-4 : tie.Need-silent-requires-4
 silent-requires-4 c κs = tt
