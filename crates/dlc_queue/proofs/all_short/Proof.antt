@@ -6,7 +6,7 @@ use Rattle.dlc_queue.proofs.Short.{short-stops, short-goes}
 use Prim.Native.Nat.{_≤_, _-_}
 use native.Mathlib.Omega.{arith}
 use lib.ListN.{length, take, drop, drop-of-length-le}
-use Rattle.dlc_queue.specs.Queue.{allShort}
+use Rattle.dlc_queue.specs.Queue.{slots, allShort}
 use Rattle.dlc_queue.proofs.all_short.Statement.{statement}
 use Rattle.dlc_queue.proofs.all_short.Tie as tie
 
@@ -28,7 +28,7 @@ array-copy-out-p c = omega arith
 -- the array holds the slots that are searched
 room : (s : tie.Start Inv-loop μ-loop) → s .args .n ≤ length (s .args .t1)
 room s =
-    let long : length (s .args .t1) ≡ 7 = search needs in
+    let long : length (s .args .t1) ≡ slots = search needs in
     omega arith
 
 returns : tie.Need-returns Inv-loop μ-loop
