@@ -312,6 +312,8 @@ fn send_one(
     ensures { λ r. ⌜ OneSent link code reset delivered octet (now (reply .entry)) (now (reply .exit)) r ⌝ }
 {
     reply[0] = octet;
+    let mut lengths = [0usize; Queue::SLOTS];
+    lengths[0] = 1;
     Outcome {
         link: link,
         answer: Answer {
@@ -319,7 +321,7 @@ fn send_one(
             upper_reset: reset,
             delivered: delivered,
             sent: 1,
-            lengths: [1, 0, 0, 0, 0, 0, 0],
+            lengths: lengths,
         },
     }
 }

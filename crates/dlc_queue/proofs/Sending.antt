@@ -5,8 +5,8 @@ use native.Mathlib.Numerals.{add-one}
 use mathlib.Core.Path.{_≡_, refl, sym, ap, _∙_}
 use mathlib.Core.Bool.{true, false}
 use mathlib.Core.List.{List, [], _∷_, _++_, map, flatten}
-use lib.ListN.{length, take, drop, getD, set, replicate, length-append, length-map, List·getD-map}
-use lib.Seq.{sets, drop-cons, getD-take, length-take-le}
+use lib.ListN.{length, take, drop, getD, set, replicate, length-append, length-map}
+use lib.Seq.{sets}
 use lib.Dec.{leb}
 use borrow.Author.Tests.{leb-true, le-leb, lt-leb, lt-ltb, le-ltb}
 use Rattle.common.proofs.Buffer.{sets-++, sets-front}
@@ -16,6 +16,7 @@ use Rattle.dlc_queue.specs.declared.Payload.{Payload}
 use Rattle.dlc_queue.specs.declared.Queue.{Queue}
 use Rattle.dlc_queue.specs.Queue.{slots, replySize, octetsOf, allShort, payloads, formed}
 use Rattle.dlc_queue.specs.Send.{dataPackets, sending, Written, Sent}
+use Rattle.dlc_queue.proofs.Lists.{drop-take-cons, map-drop}
 use Rattle.dlc_queue.proofs.Short.{none, both}
 
 -- the loop's invariant: x is the number of slot i, at the index of its packet, and what is left gives the whole
@@ -36,11 +37,9 @@ length-dataPackets x (p ∷ ps) = ap suc (length-dataPackets (advance x 1) ps)
 pub next : (q : List Payload) (n i : ℕ) → n ≤ length q → i < n
     → drop i (map octetsOf (take n q)) ≡ octetsOf (getD q i none) ∷ drop (i + 1) (map octetsOf (take n q))
 next q n i h k =
-    let m : length (map octetsOf (take n q)) ≡ n = length-map (take n q) octetsOf ∙ length-take-le n q h in
-    let l : i < length (map octetsOf (take n q)) = rw m k in
-    drop-cons (map octetsOf (take n q)) i [] l
-    ∙ ap (λ (a : List ℕ). a ∷ drop (suc i) (map octetsOf (take n q))) (List·getD-map octetsOf (take n q) i none ∙ ap octetsOf (getD-take n q i none k))
-    ∙ ap (λ (m : ℕ). octetsOf (getD q i none) ∷ drop m (map octetsOf (take n q))) (sym (add-one i))
+    sym (map-drop octetsOf i (take n q))
+    ∙ ap (map octetsOf) (drop-take-cons q n i none h k)
+    ∙ ap (λ (t : List (List ℕ)). octetsOf (getD q i none) ∷ t) (map-drop octetsOf (i + 1) (take n q))
 
 -- one packet, and then the others
 module _ (ps rest : List (List ℕ)) (p : List ℕ) (x : ℕ) (e : ps ≡ p ∷ rest) where

@@ -1,16 +1,15 @@
 -- Laws of `allShort`: no payload is too long. Assumes nothing.
 use Prim.Native.Nat.{ℕ, zero, suc, _+_, _<_, _≤_}
-use native.Mathlib.Numerals.{add-one}
 use mathlib.Core.Path.{_≡_, refl, ap}
 use mathlib.Core.Bool.{Bool, true, false, _&&_}
 use mathlib.Core.List.{List, [], _∷_, _++_}
 use lib.Dec.{leb, lit≤}
-use lib.ListN.{length, getD, drop}
-use lib.Seq.{drop-cons}
+use lib.ListN.{length, getD, take, drop}
 use borrow.Author.Tests.{le-leb, lt-leb, leb-true}
 use Rattle.dlc_packet.specs.Packet.{maxPayload}
 use Rattle.dlc_queue.specs.declared.Payload.{Payload}
 use Rattle.dlc_queue.specs.Queue.{allShort}
+use Rattle.dlc_queue.proofs.Lists.{drop-take-cons}
 
 -- what an array gives past its end
 abbrev pub none : Payload
@@ -27,12 +26,13 @@ short-at [] i e = lit≤ tt
 short-at (p ∷ ps) zero e = leb-true (p .len) maxPayload (both (leb (p .len) maxPayload) (allShort ps) e .0)
 short-at (p ∷ ps) (suc i) e = short-at ps i (both (leb (p .len) maxPayload) (allShort ps) e .1)
 
--- a search for one that is too long: it is here, or it is further on
-pub short-stops : (l : List Payload) (i : ℕ) → i < length l → maxPayload < getD l i none .len → allShort (drop i l) ≡ false
-short-stops l i h over = rw (drop-cons l i none h) (simp (lt-leb _ _ over))
+-- a search for one that is too long among the first n: it is here, or it is further on
+module _ (q : List Payload) (n i : ℕ) (h : n ≤ length q) (k : i < n) where
+  pub short-stops : maxPayload < getD q i none .len → allShort (drop i (take n q)) ≡ false
+  short-stops over = rw (drop-take-cons q n i none h k) (simp (lt-leb _ _ over))
 
-pub short-goes : (l : List Payload) (i : ℕ) → i < length l → getD l i none .len ≤ maxPayload → allShort (drop i l) ≡ allShort (drop (i + 1) l)
-short-goes l i h under = rw (drop-cons l i none h, add-one i) (simp (le-leb _ _ under))
+  pub short-goes : getD q i none .len ≤ maxPayload → allShort (drop i (take n q)) ≡ allShort (drop (i + 1) (take n q))
+  short-goes under = rw (drop-take-cons q n i none h k) (simp (le-leb _ _ under))
 
 -- a short payload more
 pub short-snoc : (ps : List Payload) (x : Payload) → x .len ≤ maxPayload → allShort (ps ++ (x ∷ [])) ≡ allShort ps

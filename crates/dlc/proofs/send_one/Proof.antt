@@ -10,6 +10,9 @@ use Rattle.dlc.proofs.send_one.Tie as tie
 slice-write-reply : tie.Need-slice-write-reply
 slice-write-reply c = search needs
 
+array-write-lengths : tie.Need-array-write-lengths
+array-write-lengths c = search needs
+
 same-length : tie.Need-same-length
 same-length c = search needs
 
@@ -17,4 +20,4 @@ returns : tie.Need-returns
 returns c = record { outcome = refl; reply = sets-front (c .args .octet ∷ []) (now (c .args .reply)) (c .pre) }
 
 pub send-one-spec : {M : Type 1} → statement M
-send-one-spec = tie.close (tie.spec slice-write-reply same-length returns)
+send-one-spec = tie.close (tie.spec slice-write-reply array-write-lengths same-length returns)

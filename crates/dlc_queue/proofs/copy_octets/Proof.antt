@@ -7,6 +7,7 @@ use mathlib.Core.List.{List}
 use lib.ListN.{length, drop, getD, set, length-set, drop-of-length-le}
 use lib.Seq.{sets, drop-cons, length-take-le, getD-take}
 use Rattle.dlc_queue.specs.Queue.{octetsOf}
+use Rattle.dlc_packet.specs.Packet.{maxPayload}
 use Rattle.dlc_queue.proofs.Shape.{octets-long}
 use Rattle.dlc_queue.proofs.copy_octets.Statement.{statement}
 use Rattle.dlc_queue.proofs.copy_octets.Tie as tie
@@ -44,7 +45,7 @@ loop-again c =
     let s = c .before .before .before in
     let l = c .before .before .loop in
     let p = s .args .t1 in
-    let long : length (p .octets) ≡ 256 = octets-long p _ (s .good .0) in
+    let long : length (p .octets) ≡ maxPayload = octets-long p _ (s .good .0) in
     let fit : p .len ≤ length (p .octets) = omega arith in
     let hj : l .j < p .len = omega arith in
     let k : l .j < length (octetsOf p) = rw (length-take-le (p .len) (p .octets) fit) hj in
@@ -69,7 +70,7 @@ returns c =
     let s = c .before .before in
     let l = c .before .loop in
     let p = s .args .t1 in
-    let long : length (p .octets) ≡ 256 = octets-long p _ (s .good .0) in
+    let long : length (p .octets) ≡ maxPayload = octets-long p _ (s .good .0) in
     let fit : p .len ≤ length (p .octets) = omega arith in
     let k : length (octetsOf p) ≤ l .j = rw (length-take-le (p .len) (p .octets) fit) (omega arith) in
     ap (λ (t : List ℕ). sets (l .out) (l .o) t) (sym (drop-of-length-le (octetsOf p) k)) ∙ l .inv .1 .1 .1

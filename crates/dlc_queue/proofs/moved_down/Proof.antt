@@ -1,4 +1,5 @@
 -- `moved_down`: payloads are moved to the front, one slot a turn. Assumes nothing.
+use Rattle.dlc_queue.specs.Queue.{slots}
 use Rattle.dlc_queue.proofs.Lists.{drop-take}
 use Prim.Native.Nat.{ℕ, _+_, _-_, _<_, _≤_}
 use native.Mathlib.Omega.{arith}
@@ -14,7 +15,7 @@ use Rattle.dlc_queue.proofs.moved_down.Statement.{statement}
 use Rattle.dlc_queue.proofs.moved_down.Tie as tie
 
 abbrev Inv-loop : tie.InvT-loop
-Inv-loop n k q r₀ i₀ j₀ r i j = (j ≡ k + i) × ((j ≤ n) × ((length r ≡ 7) × (take i r ≡ take i (drop k q))))
+Inv-loop n k q r₀ i₀ j₀ r i j = (j ≡ k + i) × ((j ≤ n) × ((length r ≡ slots) × (take i r ≡ take i (drop k q))))
 
 abbrev μ-loop : tie.MeasureT-loop
 μ-loop n k q r₀ i₀ j₀ r i j = n - j
@@ -49,7 +50,7 @@ loop-again c =
     let l = c .before .before .loop in
     let q : List Payload = s .args .t1 in
     let k : ℕ = s .args .n in
-    let long : length q ≡ 7 = search needs in
+    let long : length q ≡ slots = search needs in
     let hr : l .i < length (l .r) = omega arith in
     let hq : l .i < length (drop k q) = rw length-drop (omega arith) in
     let e : getD q (l .j) none ≡ getD (drop k q) (l .i) none = ap (λ (m : ℕ). getD q m none) (l .inv .0) ∙ sym (getD-drop k q (l .i) none) in (
@@ -73,7 +74,7 @@ returns c =
     let l = c .before .loop in
     let q : List Payload = s .args .t1 in
     let k : ℕ = s .args .n in
-    let long : length q ≡ 7 = search needs in
+    let long : length q ≡ slots = search needs in
     let e : s .args .count - k ≡ l .i = omega arith in
     ap (λ (m : ℕ). take m (l .r)) e ∙ l .inv .1 .1 .1 ∙ ap (λ (m : ℕ). take m (drop k q)) (sym e) ∙ sym (drop-take k (s .args .count) q (omega arith) (omega arith))
 

@@ -7,11 +7,12 @@ use mathlib.Core.Path.{_≡_, refl, sym, ap, _∙_}
 use mathlib.Core.List.{List, [], _∷_, _++_}
 use lib.ListN.{length, take, getD, length-set}
 use lib.Seq.{take-suc-set, take-suc, take-all}
+use Rattle.dlc_packet.specs.Packet.{maxPayload}
 use Rattle.dlc_queue.proofs.payload_of.Statement.{statement}
 use Rattle.dlc_queue.proofs.payload_of.Tie as tie
 
 abbrev Inv-loop : tie.InvT-loop
-Inv-loop p octets₀ i₀ octets i = (i ≤ length p) × ((length octets ≡ 256) × (take i octets ≡ take i p))
+Inv-loop p octets₀ i₀ octets i = (i ≤ length p) × ((length octets ≡ maxPayload) × (take i octets ≡ take i p))
 
 abbrev μ-loop : tie.MeasureT-loop
 μ-loop p octets₀ i₀ octets i = length p - i

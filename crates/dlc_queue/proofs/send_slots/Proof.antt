@@ -7,7 +7,8 @@ use lib.ListN.{length, take, drop, getD, length-set, length-map, drop-of-length-
 use lib.Seq.{getD-take, length-take-le}
 use Rattle.dlc_packet.specs.Numbers.{advance}
 use Rattle.dlc_queue.specs.declared.Payload.{Payload}
-use Rattle.dlc_queue.specs.Queue.{octetsOf}
+use Rattle.dlc_queue.specs.Queue.{slots, octetsOf}
+use Rattle.dlc_packet.specs.Packet.{maxPayload}
 use Rattle.dlc_queue.proofs.Shape.{array-long, long-at}
 use Rattle.dlc_queue.proofs.Short.{none, short-at}
 use Rattle.dlc_queue.proofs.Sending.{Sending, next, reply-next, counts-next, sent, short-payloads}
@@ -23,11 +24,11 @@ abbrev μ-loop : tie.MeasureT-loop
 -- as many payloads as are to be sent
 all : (s : tie.Start Inv-loop μ-loop) → length (map octetsOf (take (s .args .n) (s .args .t1))) ≡ s .args .n
 all s =
-    let h : s .args .n ≤ length (s .args .t1) = omega (arith, array-long 7 (s .args .t1) _ (s .good .0) .0, s .pre .0) in
+    let h : s .args .n ≤ length (s .args .t1) = omega (arith, array-long slots (s .args .t1) _ (s .good .0) .0, s .pre .0) in
     length-map (take (s .args .n) (s .args .t1)) octetsOf ∙ length-take-le (s .args .n) (s .args .t1) h
 
 -- the payload of a turn is short
-short : (c : tie.In-loop Inv-loop μ-loop) → getD (c .before .before .before .args .t1) (c .before .loop .i) none .len ≤ 256
+short : (c : tie.In-loop Inv-loop μ-loop) → getD (c .before .before .before .args .t1) (c .before .loop .i) none .len ≤ maxPayload
 short c =
     let s = c .before .before .before in
     rw (getD-take (s .args .n) (s .args .t1) (c .before .loop .i) none (c .loop-test .taken)) at (short-at (take (s .args .n) (s .args .t1)) (c .before .loop .i) (s .pre .1 .0))
@@ -74,10 +75,10 @@ loop-again c =
     let rest : List (List ℕ) = drop (l .i + 1) ps in
     let k = c .before .before .before .put-data in
     let x′ : c .advanced .result ≡ advance (l .x) 1 = c .advanced .ensures in
-    let whole = array-long 7 q _ (s .good .0) in
+    let whole = array-long slots q _ (s .good .0) in
     let hi : l .i < n = w .loop-test .taken in
     let room : n ≤ length q = omega (arith, whole .0, s .pre) in
-    let under : p .len ≤ 256 = short w in
+    let under : p .len ≤ maxPayload = short w in
     let fit : p .len ≤ length (p .octets) = omega (arith, long-at q (l .i) (omega arith) (whole .1)) in
     let len : length (octetsOf p) ≡ p .len = length-take-le (p .len) (p .octets) fit in
     let count : k .result ≡ suc (length (octetsOf p)) = omega (arith, k .ensures .0, len) in

@@ -4,6 +4,7 @@ use native.Mathlib.Nat.{pos-of-ne-zero}
 use mathlib.Core.Path.{_≡_, sym, ap, _∙_}
 use lib.ListN.{length}
 use Rattle.dlc_packet.specs.Numbers.{distance}
+use Rattle.dlc.specs.Answers.{noEntry}
 use Rattle.dlc.specs.Model.{view}
 use Rattle.dlc.specs.Events.{without}
 use Rattle.dlc.proofs.Parts.{length-queue}
@@ -21,7 +22,7 @@ silent-requires c κs = tt
 returns : tie.Need-returns
 returns c =
     let l = c .before .before .before .before .args .self in
-    refused-returns _ l 24 _ (acknowledged-none (view l) (distance (l .base) (c .before .before .before .before .args .x)) (sym (c .before .before .dack-distance .ensures) ∙ c .before .if1 .taken)) (c .silent .ensures)
+    refused-returns _ l noEntry _ (acknowledged-none (view l) (distance (l .base) (c .before .before .before .before .args .x)) (sym (c .before .before .dack-distance .ensures) ∙ c .before .if1 .taken)) (c .silent .ensures)
 
 cast-if2 : tie.Need-cast-if2
 cast-if2 c = search needs
@@ -35,7 +36,7 @@ returns-2 c =
     let n : ℕ = distance (l .base) (c .before .before .before .before .before .args .x) in
     let e : c .before .before .before .dack-distance .result ≡ n = c .before .before .before .dack-distance .ensures in
     let len : length (view l .queue) ≡ l .queue .count = length-queue l _ (c .before .before .before .before .before .good .0) (c .before .before .before .before .before .pre .0) in
-    refused-returns _ l 24 _ (acknowledged-over (view l) n (rw (len, sym e) (c .before .if2 .taken))) (c .silent2 .ensures)
+    refused-returns _ l noEntry _ (acknowledged-over (view l) n (rw (len, sym e) (c .before .if2 .taken))) (c .silent2 .ensures)
 
 without-requires : tie.Need-without-requires
 without-requires c κs = (c .before .before .before .before .pre .0, (c .before .before .before .before .pre .1, c .if2 .left))

@@ -6,6 +6,7 @@ use lib.ListN.{length}
 use denote.Ref.{now}
 use Rattle.dlc_packet.specs.declared.Kind.{Kind}
 use Rattle.dlc_queue.specs.Queue.{replySize}
+use Rattle.dlc.specs.Answers.{badPacket}
 use Rattle.dlc.specs.Model.{wellFormed, view}
 use Rattle.dlc.specs.Events.{arrivalOf, packetStep}
 use Rattle.dlc.proofs.Refusals.{call-ok, call-room, arrival-refused, arrival-step}
@@ -73,7 +74,7 @@ dack-requires : tie.Need-dack-requires
 dack-requires c κs = ok (c .before .before .before .before)
 
 returns-2 : tie.Need-returns-2
-returns-2 c = refused-meets _ _ 23 _ _ (row (c .before .before .before) (c .before .enum-told .given .1)) (c .silent2 .ensures)
+returns-2 c = refused-meets _ _ badPacket _ _ (row (c .before .before .before) (c .before .enum-told .given .1)) (c .silent2 .ensures)
 
 same-length : tie.Need-same-length
 same-length c = search needs

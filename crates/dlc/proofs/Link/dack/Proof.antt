@@ -1,5 +1,6 @@
 -- `Link::dack`: a row of the table. Assumes nothing.
 use mathlib.Core.Path.{ap}
+use Rattle.dlc.specs.Answers.{noEntry}
 use Rattle.dlc.specs.declared.State.{State}
 use Rattle.dlc.specs.Model.{view}
 use Rattle.dlc.specs.Events.{dackStep}
@@ -33,13 +34,13 @@ acknowledge-requires : tie.Need-acknowledge-requires
 acknowledge-requires c κs = (c .before .before .pre, c .enum-told4 .given .1)
 
 returns : tie.Need-returns
-returns c = refused-returns _ _ 24 _ (ap (λ (s : State). dackStep (view (c .before .before .before .args .self)) s (c .before .before .before .args .x)) (c .before .enum-told .given .1)) (c .silent .ensures)
+returns c = refused-returns _ _ noEntry _ (ap (λ (s : State). dackStep (view (c .before .before .before .args .self)) s (c .before .before .before .args .x)) (c .before .enum-told .given .1)) (c .silent .ensures)
 
 returns-2 : tie.Need-returns-2
-returns-2 c = refused-returns _ _ 24 _ (ap (λ (s : State). dackStep (view (c .before .before .before .args .self)) s (c .before .before .before .args .x)) (c .before .enum-told2 .given .1)) (c .silent2 .ensures)
+returns-2 c = refused-returns _ _ noEntry _ (ap (λ (s : State). dackStep (view (c .before .before .before .args .self)) s (c .before .before .before .args .x)) (c .before .enum-told2 .given .1)) (c .silent2 .ensures)
 
 returns-3 : tie.Need-returns-3
-returns-3 c = refused-returns _ _ 24 _ (ap (λ (s : State). dackStep (view (c .before .before .before .args .self)) s (c .before .before .before .args .x)) (c .before .enum-told3 .given .1)) (c .silent3 .ensures)
+returns-3 c = refused-returns _ _ noEntry _ (ap (λ (s : State). dackStep (view (c .before .before .before .args .self)) s (c .before .before .before .args .x)) (c .before .enum-told3 .given .1)) (c .silent3 .ensures)
 
 returns-4 : tie.Need-returns-4
 returns-4 c = returns-by _ _ _ _ (ap (λ (s : State). dackStep (view (c .before .before .before .args .self)) s (c .before .before .before .args .x)) (c .before .enum-told4 .given .1)) (c .acknowledge .ensures)

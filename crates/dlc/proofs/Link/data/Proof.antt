@@ -1,5 +1,6 @@
 -- `Link::data`: a row of the table: open states judge. Assumes nothing.
 use mathlib.Core.Path.{sym, _∙_}
+use Rattle.dlc.specs.Answers.{noEntry}
 use Rattle.dlc.specs.Model.{view}
 use Rattle.dlc.proofs.Outcomes.{refused-meets, meets-by, data-open, data-closed}
 use borrow.Author.Needs.{needs}
@@ -26,7 +27,7 @@ returns c =
 returns-2 : tie.Need-returns-2
 returns-2 c =
     let l = c .before .before .before .before .args .self in
-    refused-meets _ l 24 _ _ (data-closed (view l) (l .state) (c .before .before .before .before .args .x) (sym (c .before .before .is-open .ensures) ∙ c .before .if1 .left)) (c .silent .ensures)
+    refused-meets _ l noEntry _ _ (data-closed (view l) (l .state) (c .before .before .before .before .args .x) (sym (c .before .before .is-open .ensures) ∙ c .before .if1 .left)) (c .silent .ensures)
 
 pub data-spec : {M : Type 1} → statement M
 data-spec =

@@ -6,6 +6,7 @@ use mathlib.Core.Bool.{true}
 use lib.ListN.{length}
 use denote.Ref.{now}
 use Rattle.dlc_queue.specs.Queue.{slots}
+use Rattle.dlc.specs.Answers.{notOpen, queueFull, tooLong}
 use Rattle.dlc.specs.Model.{wellFormed, view}
 use Rattle.dlc.specs.Events.{withPayload}
 use Rattle.dlc.proofs.Parts.{length-queue}
@@ -33,7 +34,7 @@ silent-requires-2 c κs = tt
 returns-2 : tie.Need-returns-2
 returns-2 c =
     let s = c .before .before .before .before .before .before in
-    refused-meets _ _ 21 _ _ (payload-tooLong (view (s .args .self)) (length (now (s .args .reply))) (c .before .before .before .refusal .result) (c .before .before .before .refusal .ensures) (c .before .before .if1 .left) (now (s .args .p)) (c .before .if2 .taken)) (c .silent2 .ensures)
+    refused-meets _ _ tooLong _ _ (payload-tooLong (view (s .args .self)) (length (now (s .args .reply))) (c .before .before .before .refusal .result) (c .before .before .before .refusal .ensures) (c .before .before .if1 .left) (now (s .args .p)) (c .before .if2 .taken)) (c .silent2 .ensures)
 
 is-open-requires : tie.Need-is-open-requires
 is-open-requires c κs = tt
@@ -46,12 +47,12 @@ returns-3 c =
     let s = c .before .before .before .before .before .before .before .before .before .before in
     let l = s .args .self in
     let full : slots ≤ length (view l .queue) = rw (length-queue l _ (s .good .0) (ok (c .before .before .before .before .before .before))) (omega (arith, c .before .if4 .taken)) in
-    refused-meets _ _ 22 _ _
+    refused-meets _ _ queueFull _ _
     (payload-full (view l) (length (now (s .args .reply))) (c .before .before .before .before .before .before .before .refusal .result) (c .before .before .before .before .before .before .before .refusal .ensures) (c .before .before .before .before .before .before .if1 .left) (now (s .args .p)) (c .before .before .before .before .before .if2 .left) (sym (c .before .before .before .before .is-open .ensures) ∙ c .before .before .before .if3 .taken) full)
     (c .silent3 .ensures)
 
 with-payload-requires : tie.Need-with-payload-requires
-with-payload-requires c κs = (ok (c .before .before .before .before .before), (c .if4 .left, c .before .before .before .before .if2 .left))
+with-payload-requires c κs = (ok (c .before .before .before .before .before), (omega (arith, c .if4 .left), c .before .before .before .before .if2 .left))
 
 silent-requires-4 : tie.Need-silent-requires-4
 silent-requires-4 c κs = tt
@@ -72,7 +73,7 @@ returns-4 c =
 returns-5 : tie.Need-returns-5
 returns-5 c =
     let s = c .before .before .before .before .before .before .before .before in
-    refused-meets _ _ 20 _ _
+    refused-meets _ _ notOpen _ _
     (payload-notOpen (view (s .args .self)) (length (now (s .args .reply))) (c .before .before .before .before .before .refusal .result) (c .before .before .before .before .before .refusal .ensures) (c .before .before .before .before .if1 .left) (now (s .args .p)) (c .before .before .before .if2 .left) (sym (c .before .before .is-open .ensures) ∙ c .before .if3 .left))
     (c .silent5 .ensures)
 

@@ -1,5 +1,6 @@
 -- `Link::reset_ack`: a row of the table. Assumes nothing.
 use mathlib.Core.Path.{ap, _∙_}
+use Rattle.dlc.specs.Answers.{noEntry}
 use Rattle.dlc.specs.declared.State.{State}
 use Rattle.dlc.specs.declared.State.the-variants.{Data}
 use Rattle.dlc.specs.Model.{view}
@@ -39,7 +40,7 @@ silent-requires-4 : tie.Need-silent-requires-4
 silent-requires-4 c κs = tt
 
 returns : tie.Need-returns
-returns c = refused-returns _ _ 24 _ (ap (λ (s : State). resetAckStep (view (c .before .before .before .args .self)) s) (c .before .enum-told .given .1)) (c .silent .ensures)
+returns c = refused-returns _ _ noEntry _ (ap (λ (s : State). resetAckStep (view (c .before .before .before .args .self)) s) (c .before .enum-told .given .1)) (c .silent .ensures)
 
 returns-2 : tie.Need-returns-2
 returns-2 c =
@@ -49,10 +50,10 @@ returns-2 c =
     done-returns _ l (c .before .in-state .result) (inState Data (view l)) _ (ap (λ (s : State). resetAckStep (view l) s) e) v (c .silent2 .ensures)
 
 returns-3 : tie.Need-returns-3
-returns-3 c = refused-returns _ _ 24 _ (ap (λ (s : State). resetAckStep (view (c .before .before .before .args .self)) s) (c .before .enum-told3 .given .1)) (c .silent3 .ensures)
+returns-3 c = refused-returns _ _ noEntry _ (ap (λ (s : State). resetAckStep (view (c .before .before .before .args .self)) s) (c .before .enum-told3 .given .1)) (c .silent3 .ensures)
 
 returns-4 : tie.Need-returns-4
-returns-4 c = refused-returns _ _ 24 _ (ap (λ (s : State). resetAckStep (view (c .before .before .before .args .self)) s) (c .before .enum-told4 .given .1)) (c .silent4 .ensures)
+returns-4 c = refused-returns _ _ noEntry _ (ap (λ (s : State). resetAckStep (view (c .before .before .before .args .self)) s) (c .before .enum-told4 .given .1)) (c .silent4 .ensures)
 
 pub reset-ack-spec : {M : Type 1} → statement M
 reset-ack-spec =

@@ -3,6 +3,7 @@ use mathlib.Core.Path.{_≡_, ap, _∙_}
 use mathlib.Core.Bool.{true}
 use lib.ListN.{length}
 use denote.Ref.{now}
+use Rattle.dlc.specs.Answers.{noEntry}
 use Rattle.dlc.specs.declared.State.{State}
 use Rattle.dlc.specs.declared.State.the-variants.{Reset}
 use Rattle.dlc.specs.Model.{wellFormed, view}
@@ -68,13 +69,13 @@ returns-2 c =
     done-meets _ l (c .before .in-state .result) (inState Reset (view l)) _ _ (row (c .before .before .before .before) e) v (c .silent2 .ensures)
 
 returns-3 : tie.Need-returns-3
-returns-3 c = refused-meets _ _ 24 _ _ (row (c .before .before .before) (c .before .enum-told2 .given .1)) (c .silent3 .ensures)
+returns-3 c = refused-meets _ _ noEntry _ _ (row (c .before .before .before) (c .before .enum-told2 .given .1)) (c .silent3 .ensures)
 
 returns-4 : tie.Need-returns-4
-returns-4 c = refused-meets _ _ 24 _ _ (row (c .before .before .before) (c .before .enum-told3 .given .1)) (c .silent4 .ensures)
+returns-4 c = refused-meets _ _ noEntry _ _ (row (c .before .before .before) (c .before .enum-told3 .given .1)) (c .silent4 .ensures)
 
 returns-5 : tie.Need-returns-5
-returns-5 c = refused-meets _ _ 24 _ _ (row (c .before .before .before) (c .before .enum-told4 .given .1)) (c .silent5 .ensures)
+returns-5 c = refused-meets _ _ noEntry _ _ (row (c .before .before .before) (c .before .enum-told4 .given .1)) (c .silent5 .ensures)
 
 pub start-spec : {M : Type 1} → statement M
 start-spec =

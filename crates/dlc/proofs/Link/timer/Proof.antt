@@ -5,6 +5,7 @@ use mathlib.Core.Bool.{true}
 use lib.ListN.{length}
 use denote.Ref.{now}
 use Rattle.dlc_queue.specs.Queue.{replySize}
+use Rattle.dlc.specs.Answers.{noEntry}
 use Rattle.dlc.specs.declared.State.{State}
 use Rattle.dlc.specs.declared.State.the-variants.{Reset}
 use Rattle.dlc.specs.Model.{wellFormed, view}
@@ -61,7 +62,7 @@ send-all-requires : tie.Need-send-all-requires
 send-all-requires c κs = (ok (c .before .before .before), room (c .before .before .before))
 
 returns-2 : tie.Need-returns-2
-returns-2 c = refused-meets _ _ 24 _ _ (row (c .before .before .before) (c .before .enum-told .given .1)) (c .silent2 .ensures)
+returns-2 c = refused-meets _ _ noEntry _ _ (row (c .before .before .before) (c .before .enum-told .given .1)) (c .silent2 .ensures)
 
 same-length : tie.Need-same-length
 same-length c = search needs
@@ -72,7 +73,7 @@ returns-3 c =
     meets-by _ (timerStep (view l) Reset) _ _ _ _ (row (c .before .before .before .before .before .before) (c .before .before .before .before .enum-told2 .given .1)) (one-meets (timerStep (view l) Reset) l l 16 _ _ _ refl refl refl (c .before .before .send-one .ensures))
 
 returns-4 : tie.Need-returns-4
-returns-4 c = refused-meets _ _ 24 _ _ (row (c .before .before .before) (c .before .enum-told3 .given .1)) (c .silent3 .ensures)
+returns-4 c = refused-meets _ _ noEntry _ _ (row (c .before .before .before) (c .before .enum-told3 .given .1)) (c .silent3 .ensures)
 
 same-length-2 : tie.Need-same-length-2
 same-length-2 c = search needs
