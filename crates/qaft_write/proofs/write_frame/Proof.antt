@@ -48,9 +48,13 @@ same-length c = c .before .before .put-frame .kept .1 .1 .1 .1 .0
 
 returns-4 : tie.Need-returns-4
 returns-4 c =
-    let f = c .before .before .before .before .before .fits2 in
-    let p = c .before .before .put-frame in
-    write-fit _ _ _ _ (c .before .before .before .before .before .before .before .before .before .if1 .left) (c .before .before .before .before .before .before .before .before .if2 .left) (c .before .before .before .before .before .before .before .if3 .left) _ (c .before .before .before .before .before .before .check-octet .ensures) _ (f .ensures) (c .before .before .before .before .if4 .taken) _ _ (p .ensures .0) (p .ensures .1)
+    let put = c .before .before in
+    let taken = put .before .before in
+    let fitted = taken .before in
+    let checked = fitted .before in
+    let passed = checked .before in
+    write-fit _ _ _ _ (passed .before .before .if1 .left) (passed .before .if2 .left) (passed .if3 .left) _ (checked .check-octet .ensures) _ (fitted .fits2 .ensures)
+    (taken .if4 .taken) _ _ (put .put-frame .ensures .0) (put .put-frame .ensures .1)
 
 refused-requires-4 : tie.Need-refused-requires-4
 refused-requires-4 c κs = search needs
@@ -58,7 +62,11 @@ refused-requires-4 c κs = search needs
 returns-5 : tie.Need-returns-5
 unfolding refusal
 returns-5 c =
-    let e = write-unfit _ _ _ _ (c .before .before .before .before .before .before .if1 .left) (c .before .before .before .before .before .if2 .left) (c .before .before .before .before .if3 .left) _ (c .before .before .before .check-octet .ensures) _ (c .before .before .fits2 .ensures) (c .before .if4 .left) in
+    let left = c .before in
+    let fitted = left .before in
+    let checked = fitted .before in
+    let passed = checked .before in
+    let e = write-unfit _ _ _ _ (passed .before .before .if1 .left) (passed .before .if2 .left) (passed .if3 .left) _ (checked .check-octet .ensures) _ (fitted .fits2 .ensures) (left .if4 .left) in
     (c .refused4 .ensures ∙ sym (ap (λ (o : Outcome). o .answer) e), sym (ap (λ (o : Outcome). o .buffer) e))
 
 pub write-frame-spec : {M : Type 1} → statement M
