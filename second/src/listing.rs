@@ -26,5 +26,8 @@ pub fn listing(level: u8, capture: &[u8]) -> String {
         text += &format!("{} {}\n", i + 1, details(report));
     }
     let reports = line.reports.len();
-    text + &format!("end {reports} before {} after {}\n", line.before, line.after)
+    text + &format!(
+        "end {reports} before {} after {}\n",
+        line.before, line.after
+    )
 }
