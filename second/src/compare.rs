@@ -21,8 +21,8 @@ const LAYERS: [(&str, Layer, &[u8]); 8] = [
     ("check sequence", sums::check_sequence, &[]),
     ("AFP reader", afp_read::compare, &afp_read::NUMBERS),
     ("AFP writer", afp_write::compare, &afp_write::NUMBERS),
-    ("listing, level 0", listing::level_0, &[]),
-    ("listing, level 1", listing::level_1, &[]),
+    ("listing, level 0", listing::level_0, &listing::NUMBERS),
+    ("listing, level 1", listing::level_1, &listing::NUMBERS),
 ];
 
 /// Compares every layer; true where nothing differs and every number came up.

@@ -29,7 +29,10 @@ struct Draft {
 
 impl Draft {
     fn new(rng: &Rng) -> Self {
-        let stations = make::stations(rng);
+        let stations = match rng.below(20) {
+            0 => make::many_stations(rng),
+            _ => make::stations(rng),
+        };
         let supplementary = match rng.below(6) {
             // a header length at the limits
             0 => {
@@ -38,7 +41,10 @@ impl Draft {
             }
             _ => make::supplementary(rng),
         };
-        let size = make::data_length(rng);
+        let size = match rng.below(20) {
+            0 => rng.between(2_303, 2_305),
+            _ => make::data_length(rng),
+        };
         Draft {
             version: 1,
             protocol: rng.pick(&[0, 0x10, 0xC0, 0xF0, 0xFD]),
@@ -140,20 +146,54 @@ impl Draft {
 /// A frame with one to three octets changed; header sum and check sequence calculated again or not.
 fn changed(rng: &Rng) -> Vec<u8> {
     let mut frame = Draft::new(rng).frame(rng);
-    let (header, checked) = (usize::from(frame[3]), frame.len() - 2);
+    let header = usize::from(frame[3]);
     for _ in 0..rng.between(1, 3) {
         let within = rng.pick(&[frame.len(), header.min(frame.len())]);
         let i = rng.below(within.max(1));
         frame[i] = rng.pick(&[frame[i] ^ (1 << rng.below(8)), rng.octet(), 0, 0xFF]);
     }
-    if rng.once_in(2) && (1..=checked).contains(&header) {
+    calculate(&mut frame, rng.once_in(2), !rng.once_in(6));
+    frame
+}
+
+/// Calculates the header sum, where octet 3 says that there is one, and the check sequence again.
+fn calculate(frame: &mut [u8], header_sum: bool, check: bool) {
+    let (header, checked) = (usize::from(frame[3]), frame.len() - 2);
+    if header_sum && (1..=checked).contains(&header) {
         frame[header - 1] = afp::header_sum(&frame[..header - 1]);
     }
-    if !rng.once_in(6) {
+    if check {
         let check = afp::check_sequence(&frame[..checked]);
         frame[checked..].copy_from_slice(&check.to_le_bytes());
     }
-    frame
+}
+
+/// Each octet of a frame changed to each value; sums as they were, or calculated again.
+fn each_change(frame: &[u8], tally: &mut Tally) {
+    for i in 0..frame.len() {
+        for x in 0..=255 {
+            for (header_sum, check) in [(false, false), (false, true), (true, true)] {
+                let mut changed = frame.to_vec();
+                changed[i] = x;
+                calculate(&mut changed, header_sum, check);
+                one(&changed, tally);
+            }
+        }
+    }
+}
+
+/// Frames whose octets are changed one by one: a broadcast, and one with all that a header can have.
+fn change_frames(rng: &Rng, tally: &mut Tally) {
+    let mut draft = Draft::new(rng);
+    draft.data = b"data".to_vec();
+    draft.stations = b"\x04AB1C\0".to_vec();
+    draft.supplementary = Vec::new();
+    each_change(&draft.frame(rng), tally);
+    draft.stations = b"\x06AB1C-7\x03X/9\x03K-z\x01Z\0".to_vec();
+    draft.supplementary = b"\x0B\0\x02AB\x80\0\0\x03X/9".to_vec();
+    for _ in 0..4 {
+        each_change(&draft.frame(rng), tally);
+    }
 }
 
 /// Any octets; the check sequence right or not.
@@ -190,6 +230,7 @@ fn with_faults(rng: &Rng, faults: &[u8]) -> Vec<u8> {
 }
 
 pub fn compare(rng: &Rng, count: u64, tally: &mut Tally) {
+    change_frames(rng, tally);
     for first in FAULTS {
         for second in FAULTS {
             for _ in 0..8 {

@@ -143,7 +143,26 @@ impl Input {
 
 type Writer = fn(u8, &[u8], usize, &[u8], &[u8], &mut [u8]) -> second::Written;
 
+/// Every pair of octets as a lone ID, and behind "A-".
+fn each_id(rng: &Rng, tally: &mut Tally) {
+    for pair in 0..=u16::MAX {
+        let [x, y] = pair.to_be_bytes();
+        for stations in [vec![2, x, y, 0], vec![4, b'A', b'-', x, y, 0]] {
+            let input = Input {
+                protocol: 0xF0,
+                stations,
+                next: 0,
+                supplementary: vec![2, 1, 0],
+                data: Vec::new(),
+                room: 20,
+            };
+            input.compare(rng, tally);
+        }
+    }
+}
+
 pub fn compare(rng: &Rng, count: u64, tally: &mut Tally) {
+    each_id(rng, tally);
     for first in FAULTS {
         for second in FAULTS {
             for _ in 0..8 {

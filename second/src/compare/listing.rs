@@ -2,7 +2,7 @@
 //! process for each would take most of the time.
 use super::make::octets;
 use super::tally::{hex, Tally};
-use second::qaft::{body, FLAG};
+use second::qaft::{body, Report, FLAG};
 use second::rng::Rng;
 use second::{listing, qaft};
 use std::io::Write;
@@ -58,47 +58,90 @@ fn portions(rng: &Rng, pieces: u64) -> Vec<Vec<u8>> {
     portions
 }
 
-/// What the program prints of a capture that is written to it portion by portion.
-fn printed(program: &Path, portions: &[Vec<u8>]) -> std::io::Result<Vec<u8>> {
+/// Every segment of up to five octets of a small alphabet, flags among them, with a flag after each.
+fn each_segment() -> (u64, Vec<u8>) {
+    let alphabet = [FLAG, qaft::ESCAPE, 0x00, 0x20, 0x5D, 0xA3, 0x11, 0xEF];
+    let mut longest = vec![vec![]];
+    let mut capture = vec![FLAG];
+    let mut pieces = 0;
+    for _ in 0..5 {
+        longest = longest
+            .iter()
+            .flat_map(|s| alphabet.map(|x| [&s[..], &[x]].concat()))
+            .collect();
+        pieces += longest.len() as u64;
+        for segment in &longest {
+            capture.extend(segment);
+            capture.push(FLAG);
+        }
+    }
+    (pieces, capture)
+}
+
+/// What the program prints of a capture that is written to it portion by portion, and whether its exit status is 0.
+fn printed(program: &Path, portions: &[Vec<u8>]) -> std::io::Result<(bool, String)> {
     let mut child = Command::new(program)
         .stdin(Stdio::piped())
         .stdout(Stdio::piped())
         .spawn()?;
     let mut stdin = child.stdin.take().expect("it was asked for");
     // writing beside reading: a long capture and its listing are more than the pipes hold
-    std::thread::scope(|scope| {
+    let output = std::thread::scope(|scope| {
         scope.spawn(move || {
             portions
                 .iter()
                 .try_for_each(|portion| stdin.write_all(portion))
         });
-        Ok(child.wait_with_output()?.stdout)
-    })
+        child.wait_with_output()
+    })?;
+    // octets that are no text show as a mark, which the second program never prints
+    let text = String::from_utf8_lossy(&output.stdout).into_owned();
+    Ok((output.status.success(), text))
 }
 
-fn compare(level: u8, rng: &Rng, count: u64, tally: &mut Tally) {
+fn one(level: u8, pieces: u64, portions: &[Vec<u8>], tally: &mut Tally) {
     let program = program(level);
-    let mut left = count;
-    while left > 0 {
-        let most = rng.pick(&[0, 1, 3, 20, 100, 600]);
-        let pieces = left.min(most);
-        let portions = portions(rng, pieces);
-        let capture = portions.concat();
-        let ours = listing::listing(level, &capture).into_bytes();
-        let archive = printed(&program, &portions).unwrap_or_else(|error| {
-            panic!(
-                "{}: {error}; `rt check list_level{level}` builds it",
-                program.display()
-            )
-        });
-        tally.inputs(pieces, &text(ours), &text(archive), || hex(&capture));
-        left -= pieces;
+    let capture = portions.concat();
+    for report in qaft::read_line(&capture).reports {
+        tally.number(number(&report));
+    }
+    let ours = (true, listing::listing(level, &capture));
+    let archive = printed(&program, portions).unwrap_or_else(|error| {
+        panic!(
+            "{}: {error}; `rt check list_level{level}` builds it",
+            program.display()
+        )
+    });
+    tally.inputs(pieces, &ours, &archive, || hex(&capture));
+}
+
+pub const NUMBERS: [u8; 5] = [10, 11, 12, 13, 14];
+
+/// The paper's number for a report.
+fn number(report: &Report) -> u8 {
+    match report {
+        Report::Frame(_) => 10,
+        Report::Aborted => 11,
+        Report::Long => 12,
+        Report::Short => 13,
+        Report::Bad => 14,
     }
 }
 
-/// Listings are text; other octets show as a mark, which the second program never prints.
-fn text(printed: Vec<u8>) -> String {
-    String::from_utf8_lossy(&printed).into_owned()
+fn compare(level: u8, rng: &Rng, count: u64, tally: &mut Tally) {
+    let (pieces, capture) = each_segment();
+    one(level, pieces, &[capture], tally);
+    let mut left = count;
+    while left > 0 {
+        let most = match rng.below(200) {
+            // more than the programs read at once
+            0 => 6_000,
+            _ => rng.pick(&[0, 1, 2, 3, 5, 10, 50, 130]),
+        };
+        let pieces = left.min(most);
+        one(level, pieces, &portions(rng, pieces), tally);
+        left -= pieces;
+    }
 }
 
 pub fn level_0(rng: &Rng, count: u64, tally: &mut Tally) {

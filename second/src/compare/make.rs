@@ -33,10 +33,13 @@ pub fn id(rng: &Rng) -> Vec<u8> {
     id
 }
 
-/// An ID that is most often against the rule.
+/// An ID that is most often against the rule, before its "-" or behind it.
 fn wrong_id(rng: &Rng) -> Vec<u8> {
     let mut id = id(rng);
-    match rng.below(4) {
+    if rng.once_in(3) && !id.contains(&b'-') {
+        id.extend(b"-AB");
+    }
+    match rng.below(6) {
         0 => id.push(b'-'),
         1 => id.insert(0, b'-'),
         _ => {
@@ -74,7 +77,7 @@ pub fn many_stations(rng: &Rng) -> Vec<u8> {
 /// Station fields that are most often against the rule.
 pub fn wrong_stations(rng: &Rng) -> Vec<u8> {
     let mut good = stations(rng);
-    match rng.below(7) {
+    match rng.below(10) {
         0 => vec![0],
         1 => {
             good.pop();

@@ -66,8 +66,21 @@ fn grid(rng: &Rng, tally: &mut Tally) {
     }
 }
 
+/// All data of one or two octets.
+fn short(rng: &Rng, tally: &mut Tally) {
+    for level in [0, 1] {
+        for x in 0..=255 {
+            one(rng, level, &[x], Room::More, tally);
+            for y in 0..=255 {
+                one(rng, level, &[x, y], Room::More, tally);
+            }
+        }
+    }
+}
+
 pub fn compare(rng: &Rng, count: u64, tally: &mut Tally) {
     grid(rng, tally);
+    short(rng, tally);
     for _ in 0..count {
         let level = match rng.below(16) {
             0 => rng.octet(),

@@ -31,36 +31,47 @@ fn summed(rng: &Rng) -> Vec<u8> {
     octets
 }
 
-pub fn qaft_check(rng: &Rng, count: u64, tally: &mut Tally) {
-    for _ in 0..count {
-        let octets = summed(rng);
-        let (ours, archive) = (qaft::check(&octets), archive::qaft_check(&octets));
-        tally.input(&ours, &archive, || hex(&octets));
+/// Every input of up to two octets, then `count` others.
+fn each(rng: &Rng, count: u64, mut compare: impl FnMut(&[u8])) {
+    compare(&[]);
+    for x in 0..=255 {
+        compare(&[x]);
+        for y in 0..=255 {
+            compare(&[x, y]);
+        }
     }
+    for _ in 0..count {
+        compare(&summed(rng));
+    }
+}
+
+pub fn qaft_check(rng: &Rng, count: u64, tally: &mut Tally) {
+    each(rng, count, |octets| {
+        let (ours, archive) = (qaft::check(octets), archive::qaft_check(octets));
+        tally.input(&ours, &archive, || hex(octets));
+    });
 }
 
 pub fn afp_sums(rng: &Rng, count: u64, tally: &mut Tally) {
-    for _ in 0..count {
-        let octets = summed(rng);
+    each(rng, count, |octets| {
         let ours = [
-            afp::sum(&octets),
-            afp::next_station_sum(&octets),
-            afp::header_sum(&octets),
+            afp::sum(octets),
+            afp::next_station_sum(octets),
+            afp::header_sum(octets),
         ];
         let archive = [
-            archive::afp_sum(&octets),
-            archive::afp_next_station_sum(&octets),
-            archive::afp_header_sum(&octets),
+            archive::afp_sum(octets),
+            archive::afp_next_station_sum(octets),
+            archive::afp_header_sum(octets),
         ];
-        tally.input(&ours, &archive, || hex(&octets));
-    }
+        tally.input(&ours, &archive, || hex(octets));
+    });
 }
 
 pub fn check_sequence(rng: &Rng, count: u64, tally: &mut Tally) {
-    for _ in 0..count {
-        let octets = summed(rng);
-        let ours = afp::check_sequence(&octets);
-        let archive = archive::check_sequence(&octets);
-        tally.input(&ours, &archive, || hex(&octets));
-    }
+    each(rng, count, |octets| {
+        let ours = afp::check_sequence(octets);
+        let archive = archive::check_sequence(octets);
+        tally.input(&ours, &archive, || hex(octets));
+    });
 }

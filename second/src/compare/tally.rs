@@ -12,6 +12,7 @@ const ENOUGH: u64 = 20_000;
 pub struct Tally {
     name: &'static str,
     inputs: u64,
+    comparisons: u64,
     differences: u64,
     numbers: BTreeMap<u8, u64>,
     start: Instant,
@@ -22,6 +23,7 @@ impl Tally {
         Tally {
             name,
             inputs: 0,
+            comparisons: 0,
             differences: 0,
             numbers: BTreeMap::new(),
             start: Instant::now(),
@@ -47,6 +49,7 @@ impl Tally {
         text: impl FnOnce() -> String,
     ) {
         self.inputs += inputs;
+        self.comparisons += 1;
         if ours == archive {
             return;
         }
@@ -65,9 +68,13 @@ impl Tally {
     /// Prints the layer's counts; true where nothing differs and, with enough inputs, each of `numbers` came up.
     pub fn finish(&self, numbers: &[u8]) -> bool {
         let seconds = self.start.elapsed().as_secs_f64();
+        let comparisons = match self.comparisons {
+            n if n == self.inputs => String::new(),
+            n => format!(" in {n} comparisons"),
+        };
+        let (name, inputs, differences) = (self.name, self.inputs, self.differences);
         println!(
-            "{}: {} inputs, {} differences ({seconds:.1} s)",
-            self.name, self.inputs, self.differences
+            "{name}: {inputs} inputs{comparisons}, {differences} differences ({seconds:.1} s)"
         );
         if !self.numbers.is_empty() {
             let each: Vec<String> = self
