@@ -20,6 +20,7 @@ pub fn write(
     }
 }
 
+/// The frame, or the first refusal that applies of those that don't look at `out`.
 fn frame(
     protocol: u8,
     stations: &[u8],
@@ -48,18 +49,36 @@ fn frame(
     if data.len() > MAX_DATA {
         return Err(40);
     }
+    Ok(put_together(
+        protocol,
+        stations,
+        &places,
+        next,
+        supplementary,
+        data,
+    ))
+}
+
+/// The frame of fields that were judged right; the header's length is known to be at most 254.
+fn put_together(
+    protocol: u8,
+    stations: &[u8],
+    places: &[usize],
+    next: usize,
+    supplementary: &[u8],
+    data: &[u8],
+) -> Vec<u8> {
+    let header = STATIONS + stations.len() + supplementary.len() + 1;
     let next_place = match next {
         0 => 0,
         _ => STATIONS + places[next - 1],
     };
-    // both numbers are below the header's length, which is at most 254
-    let (offset, next_place) = (header as u8, next_place as u8);
-    let first = next_sum(stations, &places, next);
-    let mut frame = vec![first, VERSION, protocol, offset, next_place];
+    let mut frame = vec![next_sum(stations, places, next), VERSION, protocol];
+    frame.extend([header as u8, next_place as u8]);
     frame.extend(stations);
     frame.extend(supplementary);
     frame.push(header_sum(&frame));
     frame.extend(data);
     frame.extend(check_sequence(&frame).to_le_bytes());
-    Ok(frame)
+    frame
 }
