@@ -33,7 +33,7 @@ pub fn all(count: u64, seed: u64) -> bool {
         let rng = Rng::new(Rng::new(seed).next().wrapping_add(i as u64));
         let mut tally = Tally::new(name);
         layer(&rng, count, &mut tally);
-        good &= tally.finish(numbers);
+        good &= tally.finish(count, numbers);
     }
     good
 }

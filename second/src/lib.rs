@@ -3,10 +3,14 @@
 #![forbid(unsafe_code)]
 
 pub mod afp;
+pub mod link;
 pub mod listing;
 pub mod qaft;
+pub mod reader;
 pub mod rng;
 
+#[cfg(test)]
+mod runs;
 #[cfg(test)]
 mod worked;
 

@@ -6,7 +6,7 @@ use std::time::Instant;
 /// How many differences of a layer are shown in full.
 const SHOWN: u64 = 5;
 
-/// With fewer inputs than this a number may well not come up.
+/// With fewer random inputs than this a number may well not come up.
 const ENOUGH: u64 = 20_000;
 
 pub struct Tally {
@@ -65,8 +65,8 @@ impl Tally {
         *self.numbers.entry(number).or_default() += 1;
     }
 
-    /// Prints the layer's counts; true where nothing differs and, with enough inputs, each of `numbers` came up.
-    pub fn finish(&self, numbers: &[u8]) -> bool {
+    /// Prints the layer's counts; true where nothing differs and, with enough random inputs, each of `numbers` came up.
+    pub fn finish(&self, count: u64, numbers: &[u8]) -> bool {
         let seconds = self.start.elapsed().as_secs_f64();
         let comparisons = match self.comparisons {
             n if n == self.inputs => String::new(),
@@ -91,7 +91,7 @@ impl Tally {
         if !missing.is_empty() {
             println!("  never answered: {missing:?}");
         }
-        self.differences == 0 && (missing.is_empty() || self.inputs < ENOUGH)
+        self.differences == 0 && (missing.is_empty() || count < ENOUGH)
     }
 }
 
