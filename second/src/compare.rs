@@ -1,0 +1,39 @@
+//! The comparison, one file a layer. To come with their exports: reader.rs (QAFT chunk reader) and link.rs (DLC).
+mod afp_read;
+mod afp_write;
+mod listing;
+mod make;
+mod qaft_write;
+mod sums;
+mod tally;
+
+use second::rng::Rng;
+use tally::Tally;
+
+/// A layer takes a generator, how many inputs to compare, and where to count them.
+type Layer = fn(&Rng, u64, &mut Tally);
+
+/// A layer's name, its function, and the numbers that its inputs have to bring up.
+const LAYERS: [(&str, Layer, &[u8]); 8] = [
+    ("QAFT check", sums::qaft_check, &[]),
+    ("QAFT writer", qaft_write::compare, &[0, 1, 2, 3, 6]),
+    ("AFP sums", sums::afp_sums, &[]),
+    ("check sequence", sums::check_sequence, &[]),
+    ("AFP reader", afp_read::compare, &afp_read::NUMBERS),
+    ("AFP writer", afp_write::compare, &afp_write::NUMBERS),
+    ("listing, level 0", listing::level_0, &listing::NUMBERS),
+    ("listing, level 1", listing::level_1, &listing::NUMBERS),
+];
+
+/// Compares every layer; true where nothing differs and every number came up.
+pub fn all(count: u64, seed: u64) -> bool {
+    let mut good = true;
+    for (i, (name, layer, numbers)) in LAYERS.iter().enumerate() {
+        // a generator for each layer, so that one layer's inputs don't depend on another's
+        let rng = Rng::new(Rng::new(seed).next().wrapping_add(i as u64));
+        let mut tally = Tally::new(name);
+        layer(&rng, count, &mut tally);
+        good &= tally.finish(count, numbers);
+    }
+    good
+}

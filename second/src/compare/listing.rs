@@ -1,0 +1,153 @@
+//! The listing programs, run as processes. A capture is made of many pieces, and it is the pieces that are counted: a
+//! process for each would take most of the time.
+use super::make::octets;
+use super::tally::{hex, Tally};
+use second::qaft::{body, Report, FLAG};
+use second::rng::Rng;
+use second::{listing, qaft};
+use std::io::Write;
+use std::path::{Path, PathBuf};
+use std::process::{Command, Stdio};
+
+fn program(level: u8) -> PathBuf {
+    Path::new(env!("CARGO_MANIFEST_DIR")).join(format!("../target/bin/list_level{level}"))
+}
+
+/// One piece of a capture: a frame, a damaged one, a run of flags, or octets without a rule.
+fn piece(rng: &Rng) -> Vec<u8> {
+    let size = match rng.below(100) {
+        0 => rng.pick(&[2559, 2560, 2561, 2562, 2600, 6000]),
+        1 => rng.below(2_600),
+        _ => rng.between(1, 30),
+    };
+    let mut piece = match rng.below(8) {
+        0 => octets(rng, size),
+        1 => vec![FLAG; rng.between(1, 4)],
+        2 => [&rng.octets(rng.below(3))[..], &[FLAG]].concat(),
+        3 => [&octets(rng, size)[..], &[qaft::ESCAPE, FLAG]].concat(),
+        _ => [&body(rng.below(2) as u8, &octets(rng, size))[..], &[FLAG]].concat(),
+    };
+    if rng.once_in(4) {
+        let i = rng.below(piece.len());
+        match rng.below(3) {
+            0 => piece[i] = rng.octet(),
+            1 => piece.insert(i, rng.pick(&[0x7D, 0x7E, 0x11, 0x13])),
+            _ => drop(piece.remove(i)),
+        }
+    }
+    piece
+}
+
+/// A capture, in the portions in which it goes to the program.
+fn portions(rng: &Rng, pieces: u64) -> Vec<Vec<u8>> {
+    let mut portions: Vec<Vec<u8>> = Vec::new();
+    let cut = rng.pick(&[1, 4, 50, 1000]);
+    // most captures begin at a flag, so that the first frame is one
+    portions.push(if rng.once_in(4) {
+        octets(rng, 3)
+    } else {
+        vec![FLAG]
+    });
+    for _ in 0..pieces {
+        let piece = piece(rng);
+        match portions.last_mut() {
+            Some(last) if !rng.once_in(cut) => last.extend(piece),
+            _ => portions.push(piece),
+        }
+    }
+    portions
+}
+
+/// Every segment of up to five octets of a small alphabet, flags among them, with a flag after each.
+fn each_segment() -> (u64, Vec<u8>) {
+    let alphabet = [FLAG, qaft::ESCAPE, 0x00, 0x20, 0x5D, 0xA3, 0x11, 0xEF];
+    let mut longest = vec![vec![]];
+    let mut capture = vec![FLAG];
+    let mut pieces = 0;
+    for _ in 0..5 {
+        longest = longest
+            .iter()
+            .flat_map(|s| alphabet.map(|x| [&s[..], &[x]].concat()))
+            .collect();
+        pieces += longest.len() as u64;
+        for segment in &longest {
+            capture.extend(segment);
+            capture.push(FLAG);
+        }
+    }
+    (pieces, capture)
+}
+
+/// What the program prints of a capture that is written to it portion by portion, and whether its exit status is 0.
+fn printed(program: &Path, portions: &[Vec<u8>]) -> std::io::Result<(bool, String)> {
+    let mut child = Command::new(program)
+        .stdin(Stdio::piped())
+        .stdout(Stdio::piped())
+        .spawn()?;
+    let mut stdin = child.stdin.take().expect("it was asked for");
+    // writing beside reading: a long capture and its listing are more than the pipes hold
+    let output = std::thread::scope(|scope| {
+        scope.spawn(move || {
+            portions
+                .iter()
+                .try_for_each(|portion| stdin.write_all(portion))
+        });
+        child.wait_with_output()
+    })?;
+    // octets that are no text show as a mark, which the second program never prints
+    let text = String::from_utf8_lossy(&output.stdout).into_owned();
+    Ok((output.status.success(), text))
+}
+
+fn one(level: u8, pieces: u64, portions: &[Vec<u8>], tally: &mut Tally) {
+    let program = program(level);
+    let capture = portions.concat();
+    for report in qaft::read_line(&capture).reports {
+        tally.number(number(&report));
+    }
+    let ours = (true, listing::listing(level, &capture));
+    let archive = printed(&program, portions).unwrap_or_else(|error| {
+        panic!(
+            "{}: {error}; `rt check list_level{level}` builds it",
+            program.display()
+        )
+    });
+    tally.inputs(pieces, &ours, &archive, || hex(&capture));
+}
+
+pub const NUMBERS: [u8; 5] = [10, 11, 12, 13, 14];
+
+/// The paper's number for a report.
+fn number(report: &Report) -> u8 {
+    match report {
+        Report::Frame(_) => 10,
+        Report::Aborted => 11,
+        Report::Long => 12,
+        Report::Short => 13,
+        Report::Bad => 14,
+    }
+}
+
+fn compare(level: u8, rng: &Rng, count: u64, tally: &mut Tally) {
+    let (pieces, capture) = each_segment();
+    one(level, pieces, &[capture], tally);
+    let mut left = count;
+    while left > 0 {
+        let most = match rng.below(200) {
+            // more than the programs read at once
+            0 => 6_000,
+            _ => rng.pick(&[0, 1, 2, 3, 5, 10, 50, 130]),
+        };
+        let pieces = left.min(most);
+        one(level, pieces, &portions(rng, pieces), tally);
+        left -= pieces;
+    }
+}
+
+pub fn level_0(rng: &Rng, count: u64, tally: &mut Tally) {
+    compare(0, rng, count, tally);
+}
+
+pub fn level_1(rng: &Rng, count: u64, tally: &mut Tally) {
+    compare(1, rng, count, tally);
+}

@@ -1,0 +1,132 @@
+//! Counts of inputs and differences, and out buffers in which every touched octet shows.
+use std::collections::BTreeMap;
+use std::fmt::{Debug, Write};
+use std::time::Instant;
+
+/// How many differences of a layer are shown in full.
+const SHOWN: u64 = 5;
+
+/// With fewer random inputs than this a number may well not come up.
+const ENOUGH: u64 = 20_000;
+
+pub struct Tally {
+    name: &'static str,
+    inputs: u64,
+    comparisons: u64,
+    differences: u64,
+    numbers: BTreeMap<u8, u64>,
+    start: Instant,
+}
+
+impl Tally {
+    pub fn new(name: &'static str) -> Self {
+        Tally {
+            name,
+            inputs: 0,
+            comparisons: 0,
+            differences: 0,
+            numbers: BTreeMap::new(),
+            start: Instant::now(),
+        }
+    }
+
+    /// Counts one input; where the answers differ, shows it.
+    pub fn input<T: PartialEq + Debug>(
+        &mut self,
+        ours: &T,
+        archive: &T,
+        text: impl FnOnce() -> String,
+    ) {
+        self.inputs(1, ours, archive, text);
+    }
+
+    /// The same for several inputs that have one answer together.
+    pub fn inputs<T: PartialEq + Debug>(
+        &mut self,
+        inputs: u64,
+        ours: &T,
+        archive: &T,
+        text: impl FnOnce() -> String,
+    ) {
+        self.inputs += inputs;
+        self.comparisons += 1;
+        if ours == archive {
+            return;
+        }
+        self.differences += 1;
+        if self.differences <= SHOWN {
+            println!("DIFFERENCE in {}: {}", self.name, text());
+            println!("  second:  {ours:X?}\n  archive: {archive:X?}");
+        }
+    }
+
+    /// Counts an answer of the second program.
+    pub fn number(&mut self, number: u8) {
+        *self.numbers.entry(number).or_default() += 1;
+    }
+
+    /// Prints the layer's counts; true where nothing differs and, with enough random inputs, each of `numbers` came up.
+    pub fn finish(&self, count: u64, numbers: &[u8]) -> bool {
+        let seconds = self.start.elapsed().as_secs_f64();
+        let comparisons = match self.comparisons {
+            n if n == self.inputs => String::new(),
+            n => format!(" in {n} comparisons"),
+        };
+        let (name, inputs, differences) = (self.name, self.inputs, self.differences);
+        println!(
+            "{name}: {inputs} inputs{comparisons}, {differences} differences ({seconds:.1} s)"
+        );
+        if !self.numbers.is_empty() {
+            let each: Vec<String> = self
+                .numbers
+                .iter()
+                .map(|(n, k)| format!("{n}: {k}"))
+                .collect();
+            println!("  answers {}", each.join(", "));
+        }
+        let missing: Vec<&u8> = numbers
+            .iter()
+            .filter(|n| !self.numbers.contains_key(n))
+            .collect();
+        if !missing.is_empty() {
+            println!("  never answered: {missing:?}");
+        }
+        self.differences == 0 && (missing.is_empty() || count < ENOUGH)
+    }
+}
+
+/// Octets on both sides of an out buffer that no call may touch.
+const GUARD: usize = 16;
+
+/// An out buffer with octets around it. All is filled with a pattern that depends on the place, so that an octet written
+/// where none belongs shows, as well as one copied from beside it.
+#[derive(PartialEq)]
+pub struct Out(Vec<u8>);
+
+impl Out {
+    pub fn new(room: usize, seed: u8) -> Self {
+        let octet = |i: usize| (i as u8).wrapping_mul(37).wrapping_add(seed);
+        Out((0..room + 2 * GUARD).map(octet).collect())
+    }
+
+    /// The buffer to lend.
+    pub fn room(&mut self) -> &mut [u8] {
+        let end = self.0.len() - GUARD;
+        &mut self.0[GUARD..end]
+    }
+}
+
+impl Debug for Out {
+    fn fmt(&self, f: &mut std::fmt::Formatter) -> std::fmt::Result {
+        write!(f, "out with {GUARD} octets around it {}", hex(&self.0))
+    }
+}
+
+/// Octets as text.
+pub fn hex(octets: &[u8]) -> String {
+    let mut text = format!("[{}]", octets.len());
+    for x in octets {
+        write!(text, " {x:02X}").expect("a String takes all text");
+    }
+    text
+}

@@ -1,0 +1,130 @@
+//! QAFT on the line: the frame writer, and a reader of whole lines.
+use crate::Written;
+
+pub const FLAG: u8 = 0x7E;
+pub const ESCAPE: u8 = 0x7D;
+pub const MAX_DATA: usize = 2560;
+/// The longest frame: two flags, and each octet of data and check escaped.
+pub const MAX_FRAME: usize = 2 * (MAX_DATA + 1) + 2;
+
+/// The check octet: the two's complement of the data's sum modulo 256.
+pub fn check(data: &[u8]) -> u8 {
+    let sum: u64 = data.iter().map(|&x| u64::from(x)).sum();
+    ((256 - sum % 256) % 256) as u8
+}
+
+/// Data or check octets as they stand on the line at a level.
+pub fn escaped(level: u8, octets: &[u8]) -> Vec<u8> {
+    let mut line = Vec::with_capacity(2 * octets.len());
+    for &x in octets {
+        let special = match x {
+            FLAG | ESCAPE => true,
+            0x11 | 0x13 => level == 1,
+            _ => false,
+        };
+        if special {
+            line.extend([ESCAPE, x ^ 0x20]);
+        } else {
+            line.push(x);
+        }
+    }
+    line
+}
+
+/// A frame's body: data, then check, both escaped.
+pub fn body(level: u8, data: &[u8]) -> Vec<u8> {
+    let mut line = escaped(level, data);
+    line.extend(escaped(level, &[check(data)]));
+    line
+}
+
+/// Writes one frame to the front of `out`. Refusals in the order 6, 1, 2, 3.
+pub fn write(level: u8, at_flag: bool, data: &[u8], out: &mut [u8]) -> Written {
+    if level > 1 {
+        return Written::refused(6);
+    }
+    if data.is_empty() {
+        return Written::refused(1);
+    }
+    if data.len() > MAX_DATA {
+        return Written::refused(2);
+    }
+    let mut frame = Vec::new();
+    if !at_flag {
+        frame.push(FLAG);
+    }
+    frame.extend(body(level, data));
+    frame.push(FLAG);
+    Written::put(&frame, out, 3)
+}
+
+/// What is reported of a segment that a flag closed.
+#[derive(Debug, Clone, PartialEq, Eq)]
+pub enum Report {
+    Frame(Vec<u8>),
+    Aborted,
+    Long,
+    Short,
+    Bad,
+}
+
+/// The octets that a segment stands for, or nothing where its last 7D dangles.
+fn unescaped(segment: &[u8]) -> Option<Vec<u8>> {
+    let mut octets = Vec::with_capacity(segment.len());
+    let mut rest = segment.iter();
+    while let Some(&x) = rest.next() {
+        if x == ESCAPE {
+            octets.push(rest.next()? ^ 0x20);
+        } else {
+            octets.push(x);
+        }
+    }
+    Some(octets)
+}
+
+/// The report on one segment, the first that applies. The segment holds no flag and is not empty.
+pub fn report(segment: &[u8]) -> Report {
+    let Some(octets) = unescaped(segment) else {
+        return Report::Aborted;
+    };
+    if octets.len() > MAX_DATA + 1 {
+        return Report::Long;
+    }
+    if octets.len() < 2 {
+        return Report::Short;
+    }
+    let data = &octets[..octets.len() - 1];
+    if octets[data.len()] != check(data) {
+        return Report::Bad;
+    }
+    Report::Frame(data.to_vec())
+}
+
+/// What a whole line says: its reports, and how many octets stand before the first flag and after the last.
+#[derive(Debug, PartialEq, Eq)]
+pub struct Line {
+    pub reports: Vec<Report>,
+    pub before: usize,
+    pub after: usize,
+}
+
+/// Reads a whole line. With no flag all octets are before.
+pub fn read_line(line: &[u8]) -> Line {
+    let segments: Vec<&[u8]> = line.split(|&x| x == FLAG).collect();
+    let before = segments[0].len();
+    let (closed, after) = match segments[1..].split_last() {
+        None => (&[][..], 0),
+        Some((last, closed)) => (closed, last.len()),
+    };
+    // an empty segment says nothing
+    let reports = closed
+        .iter()
+        .filter(|s| !s.is_empty())
+        .map(|s| report(s))
+        .collect();
+    Line {
+        reports,
+        before,
+        after,
+    }
+}

@@ -1,0 +1,173 @@
+//! Runs of the chunk reader and the link against what the paper says of whole lines and of lists of events.
+use crate::link::{Link, Mode, REPLY};
+use crate::qaft::{body, read_line, Report, FLAG};
+use crate::reader::{read, State, STORE};
+use crate::rng::Rng;
+
+/// A line of frames, damaged frames, flags and noise.
+fn line(rng: &Rng) -> Vec<u8> {
+    let mut line = rng.octets(rng.below(3));
+    for _ in 0..rng.below(8) {
+        let size = rng.pick(&[0, 1, 2, 5, 30, 30, 30, 2559, 2560, 2561, 2562]);
+        let data: Vec<u8> = (0..size)
+            .map(|_| rng.pick(&[0x7D, 0x7E, 0x11, 0, rng.octet()]))
+            .collect();
+        line.push(FLAG);
+        line.extend(body(0, &data));
+        if rng.once_in(3) {
+            let i = rng.below(line.len());
+            line[i] = rng.pick(&[0x7D, 0x7E, rng.octet()]);
+        }
+    }
+    line
+}
+
+/// All reports of a line that is handed over in portions of random lengths.
+fn reports(rng: &Rng, line: &[u8]) -> Vec<Report> {
+    let mut store = vec![0xAA; STORE];
+    let mut state = State::fresh(0);
+    let mut reports = Vec::new();
+    let most = rng.pick(&[1, 3, 100, 9000]);
+    let mut place = 0;
+    while place < line.len() {
+        let end = line.len().min(place + rng.between(1, most));
+        let (next, answer) = read(state, &line[place..end], &mut store);
+        state = next;
+        place += answer.taken;
+        match answer.number {
+            10 => reports.push(Report::Frame(store[..answer.length].to_vec())),
+            11 => reports.push(Report::Aborted),
+            12 => reports.push(Report::Long),
+            13 => reports.push(Report::Short),
+            14 => reports.push(Report::Bad),
+            number => assert_eq!((number, place), (15, end)),
+        }
+    }
+    reports
+}
+
+#[test]
+fn portions_don_t_matter() {
+    let rng = Rng::new(1);
+    for _ in 0..3000 {
+        let line = line(&rng);
+        assert_eq!(reports(&rng, &line), read_line(&line).reports);
+    }
+}
+
+#[test]
+fn reader_refusals() {
+    let fresh = State::fresh(0);
+    let number = |state, room| {
+        let (after, answer) = read(state, &[FLAG, 1], &mut vec![0; room]);
+        assert!(answer.number == 15 || after == state && answer.taken == 0);
+        answer.number
+    };
+    let bad = State { sum: 1, ..fresh };
+    assert_eq!(number(State { level: 2, ..bad }, 0), 6);
+    assert_eq!(number(bad, STORE - 1), 4);
+    assert_eq!(number(bad, STORE), 5);
+    assert_eq!(number(State { count: 1, ..fresh }, STORE), 5);
+    let in_frame = State {
+        flag: true,
+        ..fresh
+    };
+    let count = |count| State { count, ..in_frame };
+    assert_eq!(number(count(2563), STORE), 5);
+    let pending = State {
+        pending: true,
+        ..fresh
+    };
+    assert_eq!(number(pending, STORE), 5);
+    assert_eq!(number(fresh, STORE), 15);
+}
+
+fn opened() -> Link {
+    Link {
+        mode: Mode::Data,
+        ..Link::fresh()
+    }
+}
+
+#[test]
+fn dack_after_15() {
+    let mut reply = [0; REPLY];
+    let link = Link {
+        mode: Mode::Wait,
+        queue: vec![vec![1], vec![2]],
+        oldest: 14,
+        awaited: 3,
+    };
+    let (after, answer) = link.clone().packet(&[0x51], &mut reply);
+    assert_eq!((after, answer.number), (link.clone(), 24));
+    let (after, answer) = link.packet(&[0x50], &mut reply);
+    assert_eq!(
+        (after.mode, after.oldest, answer.number),
+        (Mode::Data, 0, 0)
+    );
+    assert!(after.queue.is_empty());
+}
+
+#[test]
+fn link_limits() {
+    let mut reply = [0; REPLY];
+    let mut link = opened();
+    assert_eq!(link.clone().payload(&[0; 257], &mut reply).1.number, 21);
+    for expected in [0, 0, 0, 0, 0, 0, 0, 22] {
+        let (after, answer) = link.payload(&[0; 256], &mut reply);
+        assert_eq!(answer.number, expected);
+        link = after;
+    }
+    let (link, answer) = link.timer(&mut reply);
+    assert_eq!(answer.sent, vec![257; 7]);
+    assert_eq!(link.clone().timer(&mut reply[1..]).1.number, 26);
+    assert_eq!(link.packet(&[0x11], &mut reply).1.number, 23);
+    let idle = Link::fresh();
+    assert_eq!(idle.clone().packet(&[], &mut reply).1.number, 23);
+    assert_eq!(idle.clone().payload(&[], &mut reply).1.number, 20);
+    let wrong = Link { oldest: 1, ..idle };
+    assert_eq!(wrong.timer(&mut []).1.number, 27);
+}
+
+/// Two ends whose lines lose packets: what is handed up is always an initial part of what was accepted at the other end.
+#[test]
+fn nothing_twice_nothing_out_of_order() {
+    let rng = Rng::new(2);
+    let mut ends = [opened(), opened()];
+    // by end: packets on their way to it, payloads accepted at it, payloads handed up at it
+    let mut lines: [Vec<Vec<u8>>; 2] = Default::default();
+    let mut accepted: [Vec<Vec<u8>>; 2] = Default::default();
+    let mut up: [Vec<Vec<u8>>; 2] = Default::default();
+    for i in 0..100_000_u32 {
+        // timers are few, so that the lines don't fill up with repeats
+        let (end, event) = (rng.below(2), rng.below(32));
+        let mut reply = vec![0; REPLY];
+        let link = ends[end].clone();
+        let (link, answer) = match event {
+            0 => link.timer(&mut reply),
+            1..=4 => link.payload(&i.to_le_bytes(), &mut reply),
+            _ if lines[end].is_empty() => continue,
+            5 | 6 => {
+                lines[end].remove(rng.below(lines[end].len()));
+                continue;
+            }
+            _ => {
+                let packet = lines[end].remove(0);
+                let (link, answer) = link.packet(&packet, &mut reply);
+                up[end].extend(answer.up.clone().map(|part| packet[part].to_vec()));
+                (link, answer)
+            }
+        };
+        if (1..=4).contains(&event) && answer.number == 0 {
+            accepted[end].push(i.to_le_bytes().to_vec());
+        }
+        for length in answer.sent {
+            lines[1 - end].push(reply.drain(..length).collect());
+        }
+        ends[end] = link;
+    }
+    for end in [0, 1] {
+        assert!(accepted[1 - end].starts_with(&up[end]));
+        assert!(up[end].len() > 1_000, "{}", up[end].len());
+    }
+}

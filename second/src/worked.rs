@@ -1,0 +1,175 @@
+//! The cases that the scope paper works out, published vectors, and the captures of examples/, against this program alone.
+use crate::afp::{self, check_sequence, is_id, is_supplementary, Part};
+use crate::listing::listing;
+use crate::qaft::{self, Report};
+use crate::Written;
+
+fn hex(text: &str) -> Vec<u8> {
+    let octet = |s: &str| u8::from_str_radix(s, 16).expect("hex");
+    text.split_whitespace().map(octet).collect()
+}
+
+/// One frame into a buffer that has room for any, cut to what was written.
+fn frame(level: u8, at_flag: bool, data: &str) -> Vec<u8> {
+    let mut out = vec![0xAA; qaft::MAX_FRAME];
+    let written = qaft::write(level, at_flag, &hex(data), &mut out);
+    assert_eq!(written.number, 0);
+    assert!(out[written.length..].iter().all(|&x| x == 0xAA));
+    out.truncate(written.length);
+    out
+}
+
+#[test]
+fn qaft_frames() {
+    assert_eq!(frame(0, false, "41"), hex("7E 41 BF 7E"));
+    assert_eq!(frame(0, false, "7E"), hex("7E 7D 5E 82 7E"));
+    assert_eq!(frame(0, false, "82"), hex("7E 82 7D 5E 7E"));
+    assert_eq!(frame(0, false, "00"), hex("7E 00 00 7E"));
+    assert_eq!(frame(0, false, "11"), hex("7E 11 EF 7E"));
+    assert_eq!(frame(1, false, "11"), hex("7E 7D 31 EF 7E"));
+    assert_eq!(frame(1, false, "ED"), hex("7E ED 7D 33 7E"));
+    assert_eq!(frame(0, true, "41"), hex("41 BF 7E"));
+}
+
+#[test]
+fn qaft_writer_refusals() {
+    let write = |level, length, room| {
+        let mut out = vec![0xAA; room];
+        let written = qaft::write(level, false, &vec![0; length], &mut out);
+        assert!(written.number == 0 || out.iter().all(|&x| x == 0xAA));
+        (written.number, written.length)
+    };
+    assert_eq!(write(2, 0, 0), (6, 0));
+    assert_eq!(write(0, 0, 0), (1, 0));
+    assert_eq!(write(1, 2561, 0), (2, 0));
+    assert_eq!(write(1, 2560, 2562), (3, 0));
+    assert_eq!(write(1, 2560, 2563), (0, 2563));
+}
+
+#[test]
+fn qaft_segments() {
+    assert_eq!(qaft::report(&hex("10 7D")), Report::Aborted);
+    assert_eq!(qaft::report(&hex("7D")), Report::Aborted);
+    assert_eq!(qaft::report(&hex("00")), Report::Short);
+    assert_eq!(qaft::report(&hex("7D 7D")), Report::Short);
+    assert_eq!(qaft::report(&hex("41 BE")), Report::Bad);
+    assert_eq!(qaft::report(&[0; 2561]), Report::Frame(vec![0; 2560]));
+    assert_eq!(qaft::report(&[0; 2562]), Report::Long);
+}
+
+#[test]
+fn listing_of_the_paper() {
+    let capture = hex("AA 7E 40 41 7F 7E 10 7D 7E 7E 05 7E 33");
+    let text = "QAFT listing level 0\n1 frame 2 4041\n2 aborted\n3 short\nend 3 before 1 after 1\n";
+    assert_eq!(listing(0, &capture), text);
+    assert_eq!(
+        listing(1, b"AB"),
+        "QAFT listing level 1\nend 0 before 2 after 0\n"
+    );
+}
+
+#[test]
+fn listings_of_the_examples() {
+    let folder = concat!(env!("CARGO_MANIFEST_DIR"), "/../examples");
+    let mut captures = 0;
+    for entry in std::fs::read_dir(folder).expect("examples/") {
+        let path = entry.expect("an entry").path();
+        if path.extension().is_some_and(|e| e == "cap") {
+            let capture = std::fs::read(&path).expect("a capture");
+            for level in [0, 1] {
+                let stored = path.with_extension(format!("level{level}"));
+                let stored = std::fs::read_to_string(stored).expect("a listing");
+                assert!(listing(level, &capture) == stored, "{}", path.display());
+            }
+            captures += 1;
+        }
+    }
+    assert!(captures > 0);
+}
+
+#[test]
+fn sums() {
+    assert_eq!(afp::sum(&hex("04 41 42 31 43")), 0xFB);
+    assert_eq!(afp::sum(&[]), 0);
+    assert_eq!(afp::sum(&hex("FF FF")), 0xFF);
+    assert_eq!(afp::sum(&hex("FF 01")), 0x01);
+    assert_eq!(afp::next_station_sum(&hex("F0 0F")), 0);
+    assert_eq!(afp::header_sum(&hex("00")), 0xFF);
+}
+
+/// CRC-16/X-25 as it is published: its check value and its residue.
+#[test]
+fn published_check_sequence() {
+    assert_eq!(check_sequence(b"123456789"), 0x906E);
+    assert_eq!(check_sequence(&[]), 0);
+    let mut line = b"123456789".to_vec();
+    line.extend(check_sequence(&line).to_le_bytes());
+    // the register before its complement is taken
+    assert_eq!(!check_sequence(&line), 0xF0B8);
+}
+
+#[test]
+fn afp_broadcast() {
+    let mut out = [0xAA; 15];
+    let written = afp::write(0xF0, b"\x04AB1C\0", 0, &[], &[], &mut out);
+    assert_eq!(
+        written,
+        Written {
+            number: 0,
+            length: 14
+        }
+    );
+    assert_eq!(
+        out.to_vec(),
+        hex("FF 01 F0 0C 00 04 41 42 31 43 00 F9 85 DA AA")
+    );
+    let reading = afp::read(&out[..14]);
+    assert_eq!((reading.number, reading.protocol), (0, 0xF0));
+    assert_eq!((reading.ids, reading.next), (1, 0));
+    assert_eq!(reading.stations, Part { place: 5, size: 6 });
+    assert_eq!(reading.payload, Part { place: 12, size: 0 });
+    assert_eq!(reading.supplementary.size, 0);
+    assert!(!reading.unchecked);
+}
+
+#[test]
+fn ids() {
+    for id in ["A", "/", "AB1C", "N2DSY-3B1", "W2VY-DIGI", "A--", "A-~!"] {
+        assert!(is_id(id.as_bytes()), "{id}");
+    }
+    for id in ["", "-", "AB-", "-A", "ab", "A B", "A- ", "A-\x7F", "A.B"] {
+        assert!(!is_id(id.as_bytes()), "{id}");
+    }
+}
+
+#[test]
+fn supplementary_headers() {
+    for text in ["", "00", "02 00 00", "04 00 00 00 00", "03 07 01 FF"] {
+        assert!(is_supplementary(&hex(text)), "{text}");
+    }
+    for text in ["01", "00 00", "01 00", "02 07 01", "06 00 00 00 00 00 00"] {
+        assert!(!is_supplementary(&hex(text)), "{text}");
+    }
+}
+
+#[test]
+fn afp_writer_refusals() {
+    let write = |protocol, stations: &[u8], next, supplementary: &[u8], data, room| {
+        let data = vec![0; data];
+        let mut out = vec![0xAA; room];
+        let written = afp::write(protocol, stations, next, supplementary, &data, &mut out);
+        assert!(written.number == 0 || out.iter().all(|&x| x == 0xAA));
+        written.number
+    };
+    assert_eq!(write(0xFE, b"\0", 9, &[1], 2305, 0), 33);
+    assert_eq!(write(0, b"\0", 9, &[1], 2305, 0), 35);
+    assert_eq!(write(0, b"\x01A\0\0", 0, &[], 0, 99), 35);
+    assert_eq!(write(0, b"\x01A\0", 1, &[1], 2305, 0), 36);
+    assert_eq!(write(0, b"\x01A\x01B\0", 0, &[1], 2305, 0), 36);
+    assert_eq!(write(0, b"\x01A\x01B\0", 258, &[1], 2305, 0), 36);
+    assert_eq!(write(0, b"\x01A\0", 0, &[1], 2305, 0), 38);
+    assert_eq!(write(0, b"\x01A\0", 0, &[], 2305, 0), 34);
+    assert_eq!(write(0, b"\x04AB1C\0", 0, &[], 2305, 0), 40);
+    assert_eq!(write(0, b"\x04AB1C\0", 0, &[], 2304, 2317), 41);
+    assert_eq!(write(0, b"\x04AB1C\0", 0, &[], 2304, 2318), 0);
+}
