@@ -17,7 +17,7 @@ fn program(level: u8) -> PathBuf {
 fn piece(rng: &Rng) -> Vec<u8> {
     let size = match rng.below(100) {
         0 => rng.pick(&[2559, 2560, 2561, 2562, 2600, 6000]),
-        1 => rng.below(2_600),
+        1 => rng.between(1, 2_600),
         _ => rng.between(1, 30),
     };
     let mut piece = match rng.below(8) {
