@@ -146,7 +146,8 @@ typedef struct hasfandur_part {
 /*
  * What stands where in an AFP frame. On a refusal every field but the number is 0.
  * stations: the station fields with their closing 0; ids: how many IDs; next: the next ID's number, the source being 1,
- * 0 for a broadcast; supplementary: with its length octet, size 0 where it is absent and 1 where it is present and empty;
+ * 0 for a broadcast; supplementary: with its length octet, size 0 where it is absent (its place is then that of the header
+ * sum) and 1 where it is present and empty;
  * payload: the data; unchecked: the header sum was 0, "not calculated".
  */
 typedef struct hasfandur_reading {
