@@ -2,6 +2,7 @@
 //! pointers and lengths of slices, which are what the header asks for (a slice's pointer is never null, and a `&mut` slice
 //! overlaps nothing else).
 use second::afp::{Part, Reading};
+use second::reader::{Answer, State};
 use second::Written;
 
 #[repr(C)]
@@ -29,6 +30,24 @@ struct RawReading {
     unchecked: u8,
 }
 
+/// Its bools are taken as numbers too.
+#[repr(C)]
+struct RawReader {
+    level: u8,
+    synced: u8,
+    pending: u8,
+    count: usize,
+    sum: u8,
+}
+
+#[repr(C)]
+struct RawAnswer {
+    number: u8,
+    taken: usize,
+    length: usize,
+    reader: RawReader,
+}
+
 #[link(name = "desk", kind = "static")]
 extern "C" {
     fn hasfandur_qaft_check(octets: *const u8, length: usize) -> u8;
@@ -40,6 +59,14 @@ extern "C" {
         out: *mut u8,
         out_length: usize,
     ) -> RawWritten;
+    fn hasfandur_qaft_fresh(level: u8) -> RawReader;
+    fn hasfandur_qaft_read(
+        reader: RawReader,
+        chunk: *const u8,
+        chunk_length: usize,
+        buffer: *mut u8,
+        buffer_length: usize,
+    ) -> RawAnswer;
     fn hasfandur_afp_sum(octets: *const u8, length: usize) -> u8;
     fn hasfandur_afp_next_station_sum(field: *const u8, length: usize) -> u8;
     fn hasfandur_afp_header_sum(octets: *const u8, length: usize) -> u8;
@@ -80,6 +107,39 @@ pub fn qaft_check(octets: &[u8]) -> u8 {
 pub fn qaft_write(level: u8, at_flag: bool, data: &[u8], out: &mut [u8]) -> Written {
     let (place, room) = (out.as_mut_ptr(), out.len());
     written(unsafe { hasfandur_qaft_write(level, at_flag, data.as_ptr(), data.len(), place, room) })
+}
+
+fn state(raw: RawReader) -> State {
+    assert!(raw.synced < 2 && raw.pending < 2, "a bool of the archive");
+    State {
+        level: raw.level,
+        flag: raw.synced == 1,
+        pending: raw.pending == 1,
+        count: raw.count,
+        sum: raw.sum,
+    }
+}
+
+pub fn qaft_fresh(level: u8) -> State {
+    state(unsafe { hasfandur_qaft_fresh(level) })
+}
+
+pub fn qaft_read(from: State, portion: &[u8], store: &mut [u8]) -> (State, Answer) {
+    let reader = RawReader {
+        level: from.level,
+        synced: from.flag.into(),
+        pending: from.pending.into(),
+        count: from.count,
+        sum: from.sum,
+    };
+    let (place, room) = (store.as_mut_ptr(), store.len());
+    let raw = unsafe { hasfandur_qaft_read(reader, portion.as_ptr(), portion.len(), place, room) };
+    let answer = Answer {
+        number: raw.number,
+        taken: raw.taken,
+        length: raw.length,
+    };
+    (state(raw.reader), answer)
 }
 
 pub fn afp_sum(octets: &[u8]) -> u8 {

@@ -1,9 +1,10 @@
-//! The comparison, one file a layer. To come with their exports: reader.rs (QAFT chunk reader) and link.rs (DLC).
+//! The comparison, one file a layer. To come with its export: link.rs (DLC).
 mod afp_read;
 mod afp_write;
 mod listing;
 mod make;
 mod qaft_write;
+mod reader;
 mod sums;
 mod tally;
 
@@ -14,9 +15,10 @@ use tally::Tally;
 type Layer = fn(&Rng, u64, &mut Tally);
 
 /// A layer's name, its function, and the numbers that its inputs have to bring up.
-const LAYERS: [(&str, Layer, &[u8]); 8] = [
+const LAYERS: [(&str, Layer, &[u8]); 9] = [
     ("QAFT check", sums::qaft_check, &[]),
     ("QAFT writer", qaft_write::compare, &[0, 1, 2, 3, 6]),
+    ("QAFT reader", reader::compare, &reader::NUMBERS),
     ("AFP sums", sums::afp_sums, &[]),
     ("check sequence", sums::check_sequence, &[]),
     ("AFP reader", afp_read::compare, &afp_read::NUMBERS),
