@@ -1,7 +1,8 @@
 #!/usr/bin/env python3
 """Writes the captures in this folder, and beside each what the listing programs print of it at levels 0 and 1.
 
-Written from the scope paper alone, apart from the crates: the gate compares the programs' output with these files.
+A separate program over whole segments, from the scope paper's sentences, but by the hand that wrote the crates: it catches slips,
+and not a sentence read wrongly. The gate compares the programs' output with these files.
 Run it in this folder; it needs Python 3 and nothing else.
 """
 FLAG, ESCAPE = 0x7E, 0x7D
