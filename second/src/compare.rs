@@ -27,7 +27,7 @@ const LAYERS: [(&str, Layer, &[u8]); 11] = [
     ("listing, level 0", listing::level_0, &listing::NUMBERS),
     ("listing, level 1", listing::level_1, &listing::NUMBERS),
     ("DLC link, calls", link::calls, &link::NUMBERS),
-    ("DLC link, two ends", link::two_ends, &link::ENDS_NUMBERS),
+    ("DLC link, two ends", link::two_ends, &link::RUN_NUMBERS),
 ];
 
 /// Compares every layer; true where nothing differs and every number came up.

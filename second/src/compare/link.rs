@@ -2,12 +2,13 @@
 mod call;
 mod ends;
 mod make;
+mod runs;
 
 use super::tally::Tally;
 use crate::archive;
 use call::{compare, view, Event, Place};
-pub use ends::{two_ends, NUMBERS as ENDS_NUMBERS};
 use make::{FAULTS, PACKETS, PAYLOADS, ROOMS, SHAPES};
+pub use runs::{two_ends, NUMBERS as RUN_NUMBERS};
 use second::link::{Link, REPLY};
 use second::rng::Rng;
 

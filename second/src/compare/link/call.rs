@@ -108,7 +108,7 @@ pub struct Place<'a> {
 }
 
 /// What both programs gave back, each its own; the packets are those in the archive's reply buffer.
-pub struct Result {
+pub struct Given {
     pub archive: archive::Outcome,
     pub second: Option<link::Link>,
     pub packets: Vec<Vec<u8>>,
@@ -126,7 +126,7 @@ fn packets(answer: &archive::Answer, mut reply: &[u8]) -> Vec<Vec<u8>> {
 }
 
 /// Calls both and compares: every field of the answer, the later link, the whole reply buffer. A state over 3 is 27.
-pub fn compare(place: Place, event: &Event, tally: &mut Tally) -> Result {
+pub fn compare(place: Place, event: &Event, tally: &mut Tally) -> Given {
     let Place { room, seed, .. } = place;
     let (mut ours, mut theirs) = (Out::new(room, seed), Out::new(room, seed));
     let outcome = by_archive(place.archive.clone(), event, theirs.room());
@@ -153,7 +153,7 @@ pub fn compare(place: Place, event: &Event, tally: &mut Tally) -> Result {
         &(outcome.answer.clone(), their_later, theirs),
         || format!("{event:?}, room {room}, {:X?}", place.archive),
     );
-    Result {
+    Given {
         archive: outcome,
         second,
         packets,
