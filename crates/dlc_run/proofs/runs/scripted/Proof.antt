@@ -2,8 +2,8 @@
 use lib.ListN.{length}
 use Prim.Native.Nat.{_-_}
 use borrow.Author.Needs.{needs}
-use Rattle.dlc_run.proofs.scripted.Statement.{statement}
-use Rattle.dlc_run.proofs.scripted.Tie as tie
+use Rattle.dlc_run.proofs.runs.scripted.Statement.{statement}
+use Rattle.dlc_run.proofs.runs.scripted.Tie as tie
 
 abbrev Inv-loop : tie.InvT-loop
 Inv-loop script w₀ i₀ w i = Unit {0}

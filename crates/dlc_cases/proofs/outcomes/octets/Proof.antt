@@ -1,8 +1,8 @@
 -- `octets`: a loop of nine turns. Assumes nothing.
 use Prim.Native.Nat.{_-_}
 use borrow.Author.Needs.{needs}
-use Rattle.dlc_cases.proofs.octets.Statement.{statement}
-use Rattle.dlc_cases.proofs.octets.Tie as tie
+use Rattle.dlc_cases.proofs.outcomes.octets.Statement.{statement}
+use Rattle.dlc_cases.proofs.outcomes.octets.Tie as tie
 
 abbrev Inv-loop : tie.InvT-loop
 Inv-loop s at k i₀ t6 t7 i = Unit {0}

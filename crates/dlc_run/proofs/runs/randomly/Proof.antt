@@ -1,8 +1,8 @@
 -- `randomly`: a turn for each event. Assumes nothing.
 use Prim.Native.Nat.{_-_}
 use borrow.Author.Needs.{needs}
-use Rattle.dlc_run.proofs.randomly.Statement.{statement}
-use Rattle.dlc_run.proofs.randomly.Tie as tie
+use Rattle.dlc_run.proofs.runs.randomly.Statement.{statement}
+use Rattle.dlc_run.proofs.runs.randomly.Tie as tie
 
 abbrev Inv-loop : tie.InvT-loop
 Inv-loop events seed polite w₀ x₀ i₀ w x i = Unit {0}

@@ -1,8 +1,8 @@
 -- `Line::kinds`: a loop of 64 turns. Assumes nothing.
 use Prim.Native.Nat.{_-_}
 use borrow.Author.Needs.{needs}
-use Rattle.dlc_run.proofs.Line.kinds.Statement.{statement}
-use Rattle.dlc_run.proofs.Line.kinds.Tie as tie
+use Rattle.dlc_run.proofs.lines.Line.kinds.Statement.{statement}
+use Rattle.dlc_run.proofs.lines.Line.kinds.Tie as tie
 
 abbrev Inv-loop : tie.InvT-loop
 Inv-loop self nibble k₀ i₀ k i = Unit {0}

@@ -1,35 +1,30 @@
--- `packets`: a loop of seven turns. Assumes nothing.
+-- `entry`: a turn for each octet. Assumes nothing.
 use Prim.Native.Nat.{_-_}
+use lib.ListN.{length}
 use borrow.Author.Needs.{needs}
-use Rattle.dlc_cases.proofs.packets.Statement.{statement}
-use Rattle.dlc_cases.proofs.packets.Tie as tie
+use Rattle.dlc_cases.proofs.print.entry.Statement.{statement}
+use Rattle.dlc_cases.proofs.print.entry.Tie as tie
 
 abbrev Inv-loop : tie.InvT-loop
-Inv-loop reply a n at₀ i₀ t8 at i = Unit {0}
+Inv-loop names k line₀ i₀ line i = Unit {0}
 
 abbrev μ-loop : tie.MeasureT-loop
-μ-loop reply a n at₀ i₀ t8 at i = 7 - i
+μ-loop names k line₀ i₀ line i = length names - i
 
 loop-holds : tie.Need-loop-holds Inv-loop μ-loop
 loop-holds c = tt
+
+shared-slice-read-x : tie.Need-shared-slice-read-x Inv-loop μ-loop
+shared-slice-read-x c = search needs
+
+line-after-requires : tie.Need-line-after-requires Inv-loop μ-loop
+line-after-requires c κs = tt
 
 slice-aggregate-text : tie.Need-slice-aggregate-text Inv-loop μ-loop
 slice-aggregate-text c = search needs
 
 text-requires : tie.Need-text-requires Inv-loop μ-loop
 text-requires c κs = tt
-
-mul-k : tie.Need-mul-k Inv-loop μ-loop
-mul-k c = search needs
-
-element-copy-out-k : tie.Need-element-copy-out-k Inv-loop μ-loop
-element-copy-out-k c = search needs
-
-octets-requires : tie.Need-octets-requires Inv-loop μ-loop
-octets-requires c κs = tt
-
-after-requires : tie.Need-after-requires Inv-loop μ-loop
-after-requires c κs = tt
 
 add-i : tie.Need-add-i Inv-loop μ-loop
 add-i c = search needs
@@ -43,19 +38,17 @@ loop-again c = tt
 returns : tie.Need-returns Inv-loop μ-loop
 returns c = search needs
 
-pub packets-spec : {M : Type 1} → statement M
-packets-spec =
+pub entry-spec : {M : Type 1} → statement M
+entry-spec =
     tie.close
     (tie.spec
     Inv-loop
     μ-loop
     loop-holds
+    shared-slice-read-x
+    line-after-requires
     slice-aggregate-text
     text-requires
-    mul-k
-    element-copy-out-k
-    octets-requires
-    after-requires
     add-i
     loop-less
     loop-again

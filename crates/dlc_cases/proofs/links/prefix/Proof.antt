@@ -5,8 +5,8 @@ use lib.ListN.{length}
 use lib.Seq.{length-take-le}
 use native.Mathlib.Omega.{arith}
 use borrow.Author.Needs.{needs}
-use Rattle.dlc_cases.proofs.prefix.Statement.{statement}
-use Rattle.dlc_cases.proofs.prefix.Tie as tie
+use Rattle.dlc_cases.proofs.links.prefix.Statement.{statement}
+use Rattle.dlc_cases.proofs.links.prefix.Tie as tie
 
 slice-aggregate-result : tie.Need-slice-aggregate-result
 slice-aggregate-result c =

@@ -1,17 +1,23 @@
--- `copied`: a loop of seven turns. Assumes nothing.
+-- `packets`: a loop of seven turns. Assumes nothing.
 use Prim.Native.Nat.{_-_}
 use borrow.Author.Needs.{needs}
-use Rattle.dlc_run.proofs.copied.Statement.{statement}
-use Rattle.dlc_run.proofs.copied.Tie as tie
+use Rattle.dlc_cases.proofs.outcomes.packets.Statement.{statement}
+use Rattle.dlc_cases.proofs.outcomes.packets.Tie as tie
 
 abbrev Inv-loop : tie.InvT-loop
-Inv-loop reply a l₀ from₀ i₀ l from i = Unit {0}
+Inv-loop reply a n at₀ i₀ t8 at i = Unit {0}
 
 abbrev μ-loop : tie.MeasureT-loop
-μ-loop reply a l₀ from₀ i₀ l from i = 7 - i
+μ-loop reply a n at₀ i₀ t8 at i = 7 - i
 
 loop-holds : tie.Need-loop-holds Inv-loop μ-loop
 loop-holds c = tt
+
+slice-aggregate-text : tie.Need-slice-aggregate-text Inv-loop μ-loop
+slice-aggregate-text c = search needs
+
+text-requires : tie.Need-text-requires Inv-loop μ-loop
+text-requires c κs = tt
 
 mul-k : tie.Need-mul-k Inv-loop μ-loop
 mul-k c = search needs
@@ -19,17 +25,8 @@ mul-k c = search needs
 element-copy-out-k : tie.Need-element-copy-out-k Inv-loop μ-loop
 element-copy-out-k c = search needs
 
-suffix-requires : tie.Need-suffix-requires Inv-loop μ-loop
-suffix-requires c κs = tt
-
-prefix-requires : tie.Need-prefix-requires Inv-loop μ-loop
-prefix-requires c κs = tt
-
-as-number-requires : tie.Need-as-number-requires Inv-loop μ-loop
-as-number-requires c κs = tt
-
-push-requires : tie.Need-push-requires Inv-loop μ-loop
-push-requires c κs = tt
+octets-requires : tie.Need-octets-requires Inv-loop μ-loop
+octets-requires c κs = tt
 
 after-requires : tie.Need-after-requires Inv-loop μ-loop
 after-requires c κs = tt
@@ -46,19 +43,18 @@ loop-again c = tt
 returns : tie.Need-returns Inv-loop μ-loop
 returns c = search needs
 
-pub copied-spec : {M : Type 1} → statement M
-copied-spec =
+pub packets-spec : {M : Type 1} → statement M
+packets-spec =
     tie.close
     (tie.spec
     Inv-loop
     μ-loop
     loop-holds
+    slice-aggregate-text
+    text-requires
     mul-k
     element-copy-out-k
-    suffix-requires
-    prefix-requires
-    as-number-requires
-    push-requires
+    octets-requires
     after-requires
     add-i
     loop-less

@@ -1,8 +1,8 @@
 -- `filled`: a loop of n turns. Assumes nothing.
 use Prim.Native.Nat.{_-_}
 use borrow.Author.Needs.{needs}
-use Rattle.dlc_cases.proofs.filled.Statement.{statement}
-use Rattle.dlc_cases.proofs.filled.Tie as tie
+use Rattle.dlc_cases.proofs.links.filled.Statement.{statement}
+use Rattle.dlc_cases.proofs.links.filled.Tie as tie
 
 abbrev Inv-loop : tie.InvT-loop
 Inv-loop n q₀ i₀ t4 q i = Unit {0}

@@ -3,8 +3,8 @@ use Prim.Native.Nat.{_-_}
 use mathlib.Core.Path.{_≡_}
 use lib.ListN.{length, length-set}
 use borrow.Author.Needs.{needs}
-use Rattle.dlc_run.proofs.moved.Statement.{statement}
-use Rattle.dlc_run.proofs.moved.Tie as tie
+use Rattle.dlc_run.proofs.lines.moved.Statement.{statement}
+use Rattle.dlc_run.proofs.lines.moved.Tie as tie
 
 abbrev Inv-loop : tie.InvT-loop
 Inv-loop i packets r₀ j₀ r j = length r ≡ 64
