@@ -60,29 +60,24 @@ fn line(k: usize, short: bool) {
     text(b"\n");
 }
 
-// The numbers of all packets of len octets at the link k: a line for each high nibble of the control octet.
+// The numbers of all packets of len octets at the link k, by control octet: a line for each high nibble.
 fn controls(k: usize, len: usize) {
     text(b"\npackets of ");
     number(len);
     text(b" at ");
     name(k);
     text(b"\n");
-    for high in 0..16u8 {
-        nibble(k, len, high);
+    for c in 0..256 {
+        control(k, len, c);
     }
 }
 
-fn nibble(k: usize, len: usize, high: u8) {
-    for low in 0..16u8 {
-        text(b" ");
-        let c = std::num::wrapping_add_u8(sixteen(high), low);
-        run(k, event_of(3, len, c), false, true);
+fn control(k: usize, len: usize, c: usize) {
+    text(b" ");
+    run(k, event_of(3, len, (c % 256) as u8), false, true);
+    if c % 16 == 15 {
+        text(b"\n");
     }
-    text(b"\n");
-}
-
-fn sixteen(high: u8) -> u8 {
-    if high < 16 { high * 16 } else { 0 }
 }
 
 fn numbers(short: bool) {
