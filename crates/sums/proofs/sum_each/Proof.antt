@@ -1,4 +1,4 @@
--- `sums::afp_sum` meets its contract. The invariant: the sum so far, with the octets that are left, is the whole sum.
+-- `sums::sum_each` meets its contract. The invariant: the sum so far, with the octets that are left, is the whole sum.
 use mathlib.Core.Path.{_≡_}
 use Prim.Native.Nat.{_≤_, _-_}
 use native.Mathlib.Omega.{arith}
@@ -6,8 +6,8 @@ use borrow.Author.Needs.{needs}
 use lib.ListN.{length, drop}
 use Rattle.sums.specs.Sum.{sumFrom}
 use Rattle.sums.proofs.Sum.{sum-drop, sum-done}
-use Rattle.sums.proofs.afp_sum.Statement.{statement}
-use Rattle.sums.proofs.afp_sum.Tie as tie
+use Rattle.sums.proofs.sum_each.Statement.{statement}
+use Rattle.sums.proofs.sum_each.Tie as tie
 
 abbrev Inv-loop : tie.InvT-loop
 Inv-loop octets sum₀ i₀ sum i = (i ≤ length octets) × (sumFrom sum (drop i octets) ≡ sumFrom 0 octets)
@@ -40,8 +40,8 @@ returns c =
     let l = c .before in
     cc (sum-done (l .loop .sum) (l .before .before .args .octets .now) (l .loop .i) (omega arith))
 
-pub afp-sum-spec : {M : Type 1} → statement M
-afp-sum-spec =
+pub sum-each-spec : {M : Type 1} → statement M
+sum-each-spec =
     tie.close
     (tie.spec
     Inv-loop
