@@ -1,32 +1,11 @@
 /*
- * Calls every function of include/hasfandur.h. The gate builds it against the archive, runs it, and compares what it
- * prints with desk.expected.
+ * Calls the functions of include/hasfandur.h for frames: QAFT and AFP (link.c has those of the DLC link). The gate builds it
+ * against the archive as C and as C++, runs it, and compares what it prints with desk.expected.
  */
 #include "hasfandur.h"
+#include "show.h"
 
-#include <stdio.h>
 #include <string.h>
-
-/* What a buffer holds before a call, so that a touched octet shows. */
-#define UNTOUCHED 0xAA
-
-static void print_octets(const uint8_t *octets, size_t length)
-{
-    for (size_t i = 0; i < length; i++) {
-        printf(" %02X", octets[i]);
-    }
-}
-
-/* Whether every octet from index `from` on is as it was. */
-static bool untouched(const uint8_t *octets, size_t from, size_t length)
-{
-    for (size_t i = from; i < length; i++) {
-        if (octets[i] != UNTOUCHED) {
-            return false;
-        }
-    }
-    return true;
-}
 
 /* One frame into a buffer with `room` octets. */
 static void write_case(const char *name, uint8_t level, bool at_flag, const uint8_t *data, size_t length, size_t room)

@@ -1,7 +1,8 @@
 /*
  * Hasfandur: proved link software for C.
  *
- * Link with libdesk.a (`rt staticlib desk`); no other library and no flag is needed.
+ * `make install` puts it where `pkg-config hasfandur` finds it; or link with target/staticlib/libdesk.a (`rt staticlib
+ * desk`). No other library and no flag is needed. docs/C.md has a short example of each call.
  * Each function below is proved to do what its comment says, for every argument that a C program can pass as the comment
  * says: a pointer to `length` octets that are the caller's, and that no other argument overlaps where they are written.
  * No function allocates, keeps a pointer, or fails: what it can't do it refuses by a number, and a refusal writes nothing.
@@ -37,6 +38,17 @@ enum hasfandur_number {
     HASFANDUR_SHORT = 13,
     HASFANDUR_BAD_CHECK = 14,
     HASFANDUR_USED_UP = 15,
+    /* DLC link: refusals (their order: 27, 26, 23, 21, 20, 22, 24), */
+    HASFANDUR_DLC_NOT_OPEN = 20,
+    HASFANDUR_DLC_PAYLOAD_TOO_LONG = 21,
+    HASFANDUR_DLC_QUEUE_FULL = 22,
+    HASFANDUR_DLC_BAD_PACKET = 23,
+    HASFANDUR_DLC_NO_ENTRY = 24,
+    /* no refusal: DATA with another number than the expected one, answered by a DACK, */
+    HASFANDUR_DLC_OTHER_NUMBER = 25,
+    /* and two more refusals */
+    HASFANDUR_DLC_REPLY_TOO_SMALL = 26,
+    HASFANDUR_DLC_BAD_LINK = 27,
     /* AFP reader, in this order; the writer gives 33, 35, 36, 38, 34, 40, 41 */
     HASFANDUR_AFP_BAD_LENGTH = 30,
     HASFANDUR_AFP_BAD_CHECK = 31,
@@ -59,6 +71,13 @@ enum hasfandur_number {
 
 /* The QAFT reader's buffer has at least this many octets: data and check of the longest frame. */
 #define HASFANDUR_QAFT_BUFFER 2561
+
+/* A DLC payload has 0 to this many octets, a packet one more; a link's queue holds up to this many payloads; the reply
+ * buffer has at least this many octets: a whole queue of the longest packets. */
+#define HASFANDUR_DLC_MAX_PAYLOAD 256
+#define HASFANDUR_DLC_MAX_PACKET 257
+#define HASFANDUR_DLC_SLOTS 7
+#define HASFANDUR_DLC_REPLY 1799
 
 /* An AFP frame has 14 to this many octets, of them up to 2,304 data octets and a header of 12 to 254. */
 #define HASFANDUR_AFP_MAX_FRAME 2560
@@ -122,6 +141,110 @@ hasfandur_qaft_reader hasfandur_qaft_fresh(uint8_t level);
  */
 hasfandur_qaft_answer hasfandur_qaft_read(hasfandur_qaft_reader reader, const uint8_t *chunk, size_t chunk_length,
                                           uint8_t *buffer, size_t buffer_length);
+
+/* A DLC link's states: DLIDLE, DLRESET, DLDATA, DLDWAIT. */
+enum hasfandur_dlc_state {
+    HASFANDUR_DLC_IDLE = 0,
+    HASFANDUR_DLC_RESET = 1,
+    HASFANDUR_DLC_DATA = 2,
+    HASFANDUR_DLC_WAIT = 3
+};
+
+/* A slot of the queue: a payload stands in the first `length` octets. */
+typedef struct hasfandur_dlc_queued {
+    size_t length;
+    uint8_t octets[HASFANDUR_DLC_MAX_PAYLOAD];
+} hasfandur_dlc_queued;
+
+/* The queue: the payloads of the first `count` slots, oldest first. The other slots are free. */
+typedef struct hasfandur_dlc_queue {
+    size_t count;
+    hasfandur_dlc_queued slots[HASFANDUR_DLC_SLOTS];
+} hasfandur_dlc_queue;
+
+/*
+ * One end of a DLC link, which goes from call to call by value: a hasfandur_dlc_state; the payloads that the other end has
+ * not acknowledged; the oldest one's number (the next to be given where there is none); the number expected next.
+ *
+ * It is well formed where the state is at most 3, the count at most 7, each of the first `count` lengths at most 256, both
+ * numbers at most 15, the state HASFANDUR_DLC_WAIT exactly where the queue is not empty, and both numbers 0 in
+ * HASFANDUR_DLC_IDLE and HASFANDUR_DLC_RESET. A fresh link is so, and what an event gives back for such a link.
+ *
+ * No answer depends on what free slots hold, or a slot's octets behind its payload. After a refusal they are as they came;
+ * after any other answer nothing is promised of them.
+ */
+typedef struct hasfandur_dlc_link {
+    uint8_t state;
+    hasfandur_dlc_queue queue;
+    uint8_t base;
+    uint8_t expected;
+} hasfandur_dlc_link;
+
+/*
+ * The answer to an event: its number; whether the upper layer is told to reset; whether a payload is delivered, which is
+ * all of the packet that arrived behind its first octet; how many packets are sent, and their lengths (the unused ones 0).
+ * On a refusal every field but the number is 0 or false.
+ */
+typedef struct hasfandur_dlc_answer {
+    uint8_t number;
+    bool upper_reset;
+    bool delivered;
+    size_t sent;
+    size_t lengths[HASFANDUR_DLC_SLOTS];
+} hasfandur_dlc_answer;
+
+/* What an event gives back: the link for the next call, and the answer. */
+typedef struct hasfandur_dlc_outcome {
+    hasfandur_dlc_link link;
+    hasfandur_dlc_answer answer;
+} hasfandur_dlc_outcome;
+
+/* A link before any event: HASFANDUR_DLC_IDLE, queue empty, numbers 0. */
+hasfandur_dlc_link hasfandur_dlc_fresh(void);
+
+/*
+ * The four events. Each takes the link that the last call at this end gave back, and gives the next one back. Packets to be
+ * sent stand one after another at the front of `reply`; its other octets are as before. `reply` is lent to every event.
+ *
+ * Refusals, the first that applies: HASFANDUR_DLC_BAD_LINK (not well formed), HASFANDUR_DLC_REPLY_TOO_SMALL (under
+ * HASFANDUR_DLC_REPLY octets, also where nothing is sent), then those named at each event. A refusal gives the very link
+ * back that came, sends nothing and writes nothing. Otherwise HASFANDUR_DONE, or in one case HASFANDUR_DLC_OTHER_NUMBER.
+ *
+ * Start: HASFANDUR_DLC_IDLE goes to HASFANDUR_DLC_RESET; nothing is sent before the timer. HASFANDUR_DLC_NO_ENTRY in every
+ * other state.
+ */
+hasfandur_dlc_outcome hasfandur_dlc_start(hasfandur_dlc_link link, uint8_t *reply, size_t reply_length);
+
+/*
+ * The timer ran out: HASFANDUR_DLC_RESET sends RESET (10); HASFANDUR_DLC_WAIT sends every queued payload as DATA (4x, x its
+ * number), oldest first, and removes none. The link is as before. HASFANDUR_DLC_NO_ENTRY in the other states.
+ */
+hasfandur_dlc_outcome hasfandur_dlc_timer(hasfandur_dlc_link link, uint8_t *reply, size_t reply_length);
+
+/*
+ * A payload to be sent, of 0 to 256 octets: it is queued, and the state is HASFANDUR_DLC_WAIT. The timer sends it.
+ * HASFANDUR_DLC_PAYLOAD_TOO_LONG; HASFANDUR_DLC_NOT_OPEN (in HASFANDUR_DLC_IDLE and HASFANDUR_DLC_RESET);
+ * HASFANDUR_DLC_QUEUE_FULL.
+ */
+hasfandur_dlc_outcome hasfandur_dlc_payload(hasfandur_dlc_link link, const uint8_t *payload, size_t payload_length,
+                                            uint8_t *reply, size_t reply_length);
+
+/*
+ * A packet arrived. HASFANDUR_DLC_BAD_PACKET in every state: it is empty, of no kind below, over 257 octets, or not DATA and
+ * longer than one; in RESET and RESET_ACK the low four bits are not 0. Otherwise by its kind:
+ *
+ * RESET (10), in every state: queue emptied, numbers 0, the upper layer told to reset, RESET_ACK sent, to
+ * HASFANDUR_DLC_DATA.
+ * RESET_ACK (20): HASFANDUR_DLC_RESET goes to HASFANDUR_DLC_DATA. HASFANDUR_DLC_NO_ENTRY in every other state.
+ * DATA (4x), in HASFANDUR_DLC_DATA and HASFANDUR_DLC_WAIT: where x is the expected number its payload is delivered and the
+ * expected number counts on, modulo 16; otherwise the answer is HASFANDUR_DLC_OTHER_NUMBER and nothing is delivered. Either
+ * way DACK (5x) is sent with the number now expected. HASFANDUR_DLC_NO_ENTRY in the other states.
+ * DACK (5x), in HASFANDUR_DLC_WAIT: x less `base`, modulo 16, is how many of the oldest payloads are removed, and `base`
+ * becomes x; an emptied queue goes to HASFANDUR_DLC_DATA. HASFANDUR_DLC_NO_ENTRY where that is none or more than are
+ * queued, and in the other states.
+ */
+hasfandur_dlc_outcome hasfandur_dlc_arrival(hasfandur_dlc_link link, const uint8_t *packet, size_t packet_length,
+                                            uint8_t *reply, size_t reply_length);
 
 /*
  * AFP's sum of octets: eight bits with end-around carry, from 0. And the two forms in which a header holds sums: of the

@@ -1,6 +1,8 @@
 //! The functions of include/hasfandur.h, with safe wrappers. The only unsafe code of this program: each call passes
 //! pointers and lengths of slices, which are what the header asks for (a slice's pointer is never null, and a `&mut` slice
 //! overlaps nothing else).
+pub mod link;
+
 use second::afp::{Part, Reading};
 use second::reader::{Answer, State};
 use second::Written;

@@ -1,6 +1,7 @@
-//! The comparison, one file a layer. To come with its export: link.rs (DLC).
+//! The comparison, one file a layer.
 mod afp_read;
 mod afp_write;
+mod link;
 mod listing;
 mod make;
 mod qaft_write;
@@ -15,7 +16,7 @@ use tally::Tally;
 type Layer = fn(&Rng, u64, &mut Tally);
 
 /// A layer's name, its function, and the numbers that its inputs have to bring up.
-const LAYERS: [(&str, Layer, &[u8]); 9] = [
+const LAYERS: [(&str, Layer, &[u8]); 11] = [
     ("QAFT check", sums::qaft_check, &[]),
     ("QAFT writer", qaft_write::compare, &[0, 1, 2, 3, 6]),
     ("QAFT reader", reader::compare, &reader::NUMBERS),
@@ -25,6 +26,8 @@ const LAYERS: [(&str, Layer, &[u8]); 9] = [
     ("AFP writer", afp_write::compare, &afp_write::NUMBERS),
     ("listing, level 0", listing::level_0, &listing::NUMBERS),
     ("listing, level 1", listing::level_1, &listing::NUMBERS),
+    ("DLC link, calls", link::calls, &link::NUMBERS),
+    ("DLC link, two ends", link::two_ends, &link::RUN_NUMBERS),
 ];
 
 /// Compares every layer; true where nothing differs and every number came up.

@@ -6,6 +6,9 @@ ghost use Rattle.qaft_write.specs.Write.{writeFrame};
 ghost use Rattle.qaft_read.specs.State.{fresh};
 ghost use Rattle.qaft_read.specs.Read.{read};
 ghost use Rattle.desk.specs.Reading.{inNumbers};
+ghost use Rattle.dlc.specs.Model.{fresh as freshLink};
+ghost use Rattle.dlc_plain.specs.Plain.{view};
+ghost use Rattle.dlc_plain.specs.PlainCalls.{StartCall, TimerCall, PayloadCall, ArrivalCall};
 ghost use Rattle.sums.specs.Sum.{sumFrom, nextStationSum, headerSum};
 ghost use Rattle.fcs.specs.Fcs.{checkSequence};
 ghost use Rattle.afp.specs.Reading.{readOf};
@@ -65,6 +68,56 @@ pub extern "C" fn hasfandur_qaft_read(
         length: outcome.data_length(),
         reader: next,
     }
+}
+
+// The link, in plain numbers. Each event takes a link and gives it back with an answer.
+#[no_mangle]
+pub extern "C" fn hasfandur_dlc_fresh() -> dlc_plain::PlainLink
+    ensures { λ r. ⌜ view r ≡ freshLink ⌝ }
+{
+    dlc_plain::PlainLink::new()
+}
+
+#[no_mangle]
+pub extern "C" fn hasfandur_dlc_start(
+    link: dlc_plain::PlainLink,
+    reply: &mut [u8],
+) -> dlc_plain::PlainOutcome
+    ensures { λ r. ⌜ StartCall link (now (reply .entry)) (now (reply .exit)) r ⌝ }
+{
+    link.start(reply)
+}
+
+#[no_mangle]
+pub extern "C" fn hasfandur_dlc_timer(
+    link: dlc_plain::PlainLink,
+    reply: &mut [u8],
+) -> dlc_plain::PlainOutcome
+    ensures { λ r. ⌜ TimerCall link (now (reply .entry)) (now (reply .exit)) r ⌝ }
+{
+    link.timer(reply)
+}
+
+#[no_mangle]
+pub extern "C" fn hasfandur_dlc_payload(
+    link: dlc_plain::PlainLink,
+    payload: &[u8],
+    reply: &mut [u8],
+) -> dlc_plain::PlainOutcome
+    ensures { λ r. ⌜ PayloadCall link (now (payload .entry)) (now (reply .entry)) (now (reply .exit)) r ⌝ }
+{
+    link.payload(payload, reply)
+}
+
+#[no_mangle]
+pub extern "C" fn hasfandur_dlc_arrival(
+    link: dlc_plain::PlainLink,
+    packet: &[u8],
+    reply: &mut [u8],
+) -> dlc_plain::PlainOutcome
+    ensures { λ r. ⌜ ArrivalCall link (now (packet .entry)) (now (reply .entry)) (now (reply .exit)) r ⌝ }
+{
+    link.arrival(packet, reply)
 }
 
 #[no_mangle]

@@ -57,6 +57,7 @@ pub struct Link {
 
 // What an event answers: its number; whether the upper layer is told to reset; whether the lent packet delivers a payload;
 // how many packets stand at the front of the reply buffer, and their lengths, the unused ones 0.
+#[repr(C)]
 pub struct Answer {
     pub code: u8,
     pub upper_reset: bool,

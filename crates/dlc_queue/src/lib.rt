@@ -15,12 +15,14 @@ use dlc_packet::MAX_PAYLOAD;
 use dlc_packet::MODULUS;
 
 // A slot: a payload is the first len octets, the others are free.
+#[repr(C)]
 pub struct Payload {
     pub len: usize,
     pub octets: [u8; MAX_PAYLOAD],
 }
 
 // The first count slots hold payloads, oldest first; the others are free.
+#[repr(C)]
 pub struct Queue {
     pub count: usize,
     pub slots: [Payload; Queue::SLOTS],

@@ -3,6 +3,7 @@ use Prim.Native.Nat.{ℕ}
 use mathlib.Core.Path.{_≡_}
 use mathlib.Core.Bool.{true, false}
 use mathlib.Core.List.{List, [], _∷_, _++_}
+use lib.ListN.{replicate}
 use Rattle.dlc.specs.declared.State.the-variants.{Data, Wait}
 use Rattle.dlc.specs.Limits.{replySize, dackPacket}
 use Rattle.dlc.specs.Answers.{done, noEntry}
@@ -12,14 +13,19 @@ use Rattle.sums.specs.Sum.{sumFrom}
 use Rattle.afp_write.specs.Frame.{frameOf}
 use Rattle.qaft.specs.Escape.{flag}
 use Rattle.qaft.specs.Frame.{frame}
+use Rattle.qaft.specs.Limits.{maxSegment}
+use Rattle.qaft.specs.Answers.{frameRead}
+use Rattle.qaft_read.specs.State.{fresh}
+use Rattle.qaft_read.specs.Read.{read}
+use Rattle.qaft_read.specs.Answer.{number, dataLength, shown}
 use Rattle.qaft_laws.specs.Reports.{Reported, aborted, short, badCheck, reportsOf}
 
 -- a row of the table
 pub data Case : Type 0 where
-  -- the frame writer: level, data, the octets on a line that does not stand at a flag
-  writes : (level : ℕ) (d l : List ℕ) → Case
-  -- a stretch between two flags, and its report
-  reports : (s : List ℕ) → Reported → Case
+  -- a frame, written and read: level, data, the octets on a line that does not stand at a flag
+  frames : (level : ℕ) (d l : List ℕ) → Case
+  -- a stretch between two flags, its report, and the number that the reader gives
+  reports : (s : List ℕ) → Reported → (n : ℕ) → Case
   -- DLC: a link to which a packet comes, with a reply buffer that is just large enough, and what the event does
   arrives : (m : Model) (packet : List ℕ) → Effect → Case
   -- AFP: octets and their sum
@@ -27,10 +33,20 @@ pub data Case : Type 0 where
   -- AFP: protocol, station fields, next ID's number, supplementary header; the header of a frame with no data, check octets behind it
   heads : (p : ℕ) (s : List ℕ) (n : ℕ) (h header check : List ℕ) → Case
 
+-- what a fresh reader of a level makes of a line that comes as one chunk: the number given back, and the data shown
+abbrev pub Reads : (level : ℕ) (l : List ℕ) (n : ℕ) (d : List ℕ) → Type 0
+Reads level l n d =
+    let k = read (fresh level) l (replicate maxSegment 0) in
+    (number (k .answer .outcome) ≡ n) × (shown (k .buffer) (dataLength (k .answer .outcome)) ≡ d)
+
+-- a stretch s between two flags
+abbrev pub between : List ℕ → List ℕ
+between s = flag ∷ s ++ (flag ∷ [])
+
 -- what a row claims
 abbrev pub Holds : Case → Type 0
-Holds (writes level d l) = frame level false d ≡ l
-Holds (reports s p) = reportsOf (flag ∷ s ++ (flag ∷ [])) ≡ p ∷ []
+Holds (frames level d l) = (frame level false d ≡ l) × Reads level l frameRead d
+Holds (reports s p n) = (reportsOf (between s) ≡ p ∷ []) × Reads 0 (between s) n []
 Holds (arrives m packet e) = arrivalOf m packet replySize ≡ e
 Holds (sums xs s) = sumFrom 0 xs ≡ s
 Holds (heads p s n h header check) = frameOf p s n h [] ≡ header ++ check
@@ -51,16 +67,16 @@ emptied = record { ok = true; state = Data; queue = []; base = 0; expected = 0 }
 -- "Worked on paper", in the paper's order
 unfoldable pub table : List Case
 table =
-    writes 0 (0x41 ∷ []) (0x7E ∷ 0x41 ∷ 0xBF ∷ 0x7E ∷ [])
-    ∷ writes 0 (0x7E ∷ []) (0x7E ∷ 0x7D ∷ 0x5E ∷ 0x82 ∷ 0x7E ∷ [])
-    ∷ writes 0 (0x82 ∷ []) (0x7E ∷ 0x82 ∷ 0x7D ∷ 0x5E ∷ 0x7E ∷ [])
-    ∷ writes 0 (0x00 ∷ []) (0x7E ∷ 0x00 ∷ 0x00 ∷ 0x7E ∷ [])
-    ∷ writes 0 (0x11 ∷ []) (0x7E ∷ 0x11 ∷ 0xEF ∷ 0x7E ∷ [])
-    ∷ writes 1 (0x11 ∷ []) (0x7E ∷ 0x7D ∷ 0x31 ∷ 0xEF ∷ 0x7E ∷ [])
-    ∷ writes 1 (0xED ∷ []) (0x7E ∷ 0xED ∷ 0x7D ∷ 0x33 ∷ 0x7E ∷ [])
-    ∷ reports (0x10 ∷ 0x7D ∷ []) aborted
-    ∷ reports (0x00 ∷ []) short
-    ∷ reports (0x41 ∷ 0xBE ∷ []) badCheck
+    frames 0 (0x41 ∷ []) (0x7E ∷ 0x41 ∷ 0xBF ∷ 0x7E ∷ [])
+    ∷ frames 0 (0x7E ∷ []) (0x7E ∷ 0x7D ∷ 0x5E ∷ 0x82 ∷ 0x7E ∷ [])
+    ∷ frames 0 (0x82 ∷ []) (0x7E ∷ 0x82 ∷ 0x7D ∷ 0x5E ∷ 0x7E ∷ [])
+    ∷ frames 0 (0x00 ∷ []) (0x7E ∷ 0x00 ∷ 0x00 ∷ 0x7E ∷ [])
+    ∷ frames 0 (0x11 ∷ []) (0x7E ∷ 0x11 ∷ 0xEF ∷ 0x7E ∷ [])
+    ∷ frames 1 (0x11 ∷ []) (0x7E ∷ 0x7D ∷ 0x31 ∷ 0xEF ∷ 0x7E ∷ [])
+    ∷ frames 1 (0xED ∷ []) (0x7E ∷ 0xED ∷ 0x7D ∷ 0x33 ∷ 0x7E ∷ [])
+    ∷ reports (0x10 ∷ 0x7D ∷ []) aborted 11
+    ∷ reports (0x00 ∷ []) short 13
+    ∷ reports (0x41 ∷ 0xBE ∷ []) badCheck 14
     ∷ arrives waiting (dackPacket 0) (effect done [] emptied)
     ∷ arrives waiting (dackPacket 1) (refuse waiting noEntry)
     ∷ sums (0x04 ∷ 0x41 ∷ 0x42 ∷ 0x31 ∷ 0x43 ∷ []) 0xFB

@@ -15,7 +15,16 @@ pub struct Tally {
     comparisons: u64,
     differences: u64,
     numbers: BTreeMap<u8, u64>,
+    counts: BTreeMap<&'static str, u64>,
+    claims: BTreeMap<&'static str, Claim>,
     start: Instant,
+}
+
+/// A sentence that has to hold of the archive itself: how often it was checked, and how often it did not hold.
+#[derive(Default)]
+struct Claim {
+    checked: u64,
+    failed: u64,
 }
 
 impl Tally {
@@ -26,6 +35,8 @@ impl Tally {
             comparisons: 0,
             differences: 0,
             numbers: BTreeMap::new(),
+            counts: BTreeMap::new(),
+            claims: BTreeMap::new(),
             start: Instant::now(),
         }
     }
@@ -65,7 +76,37 @@ impl Tally {
         *self.numbers.entry(number).or_default() += 1;
     }
 
-    /// Prints the layer's counts; true where nothing differs and, with enough random inputs, each of `numbers` came up.
+    /// Counts something else that comes up, by its name.
+    pub fn count(&mut self, name: &'static str, times: u64) {
+        *self.counts.entry(name).or_default() += times;
+    }
+
+    /// Counts a check of a claim.
+    pub fn claim(&mut self, name: &'static str, holds: bool) {
+        let claim = self.claims.entry(name).or_default();
+        claim.checked += 1;
+        claim.failed += u64::from(!holds);
+    }
+
+    /// Prints counts and claims; true where every claim held, and everything counted came up.
+    fn finish_claims(&self, count: u64) -> bool {
+        if !self.counts.is_empty() {
+            let each: Vec<String> = self
+                .counts
+                .iter()
+                .map(|(name, n)| format!("{name}: {n}"))
+                .collect();
+            println!("  {}", each.join(", "));
+        }
+        for (name, Claim { checked, failed }) in &self.claims {
+            println!("  {name}: checked {checked} times, failed {failed}");
+        }
+        let came_up = self.counts.values().all(|&n| n != 0);
+        self.claims.values().all(|claim| claim.failed == 0) && (came_up || count < ENOUGH)
+    }
+
+    /// Prints the layer's counts; true where nothing differs, every claim held and, with enough random inputs, each of
+    /// `numbers` and all else that is counted came up.
     pub fn finish(&self, count: u64, numbers: &[u8]) -> bool {
         let seconds = self.start.elapsed().as_secs_f64();
         let comparisons = match self.comparisons {
@@ -91,7 +132,8 @@ impl Tally {
         if !missing.is_empty() {
             println!("  never answered: {missing:?}");
         }
-        self.differences == 0 && (missing.is_empty() || count < ENOUGH)
+        let claims = self.finish_claims(count);
+        claims && self.differences == 0 && (missing.is_empty() || count < ENOUGH)
     }
 }
 

@@ -1,0 +1,168 @@
+// A link in plain numbers, for C programs: its state is a number, and any number may come.
+// The four events are those of the crate dlc. A state that is none of the four makes the value ill formed: answered with 27, as there.
+ghost use mathlib.Core.Path.{_≡_};
+ghost use Rattle.dlc.specs.Model.{fresh};
+ghost use Rattle.dlc.specs.Answers.{illFormed};
+ghost use Rattle.dlc.specs.Events.{refuse};
+ghost use Rattle.dlc.specs.Calls.{answerOf};
+ghost use Rattle.dlc_plain.specs.Plain.{numberOf, stateOf, linkOf, plainOf, outcomeOf, view};
+ghost use Rattle.dlc_plain.specs.PlainCalls.{StartCall, TimerCall, PayloadCall, ArrivalCall};
+use dlc::Answer;
+use dlc::ILL_FORMED;
+use dlc::Link;
+use dlc::Outcome;
+use dlc::State;
+use dlc_queue::Queue;
+
+// The numbers of the states, in the paper's order.
+pub const IDLE: u8 = 0;
+
+pub const RESET: u8 = 1;
+
+pub const DATA: u8 = 2;
+
+pub const WAIT: u8 = 3;
+
+#[repr(C)]
+pub struct PlainLink {
+    pub state: u8,
+    pub queue: Queue,
+    pub base: u8,
+    pub expected: u8,
+}
+
+#[repr(C)]
+pub struct PlainOutcome {
+    pub link: PlainLink,
+    pub answer: Answer,
+}
+
+impl PlainLink {
+    // A fresh link.
+    pub fn new() -> Self
+        ensures { λ r. ⌜ view r ≡ fresh ⌝ }
+    {
+        plain(Link::new())
+    }
+
+    // The upper layer starts the link.
+    pub fn start(self, reply: &mut [u8]) -> PlainOutcome
+        ensures { λ r. ⌜ StartCall self (now (reply .entry)) (now (reply .exit)) r ⌝ }
+    {
+        if WAIT < self.state {
+            return self.ill_formed();
+        }
+        plain_outcome(self.link().start(reply))
+    }
+
+    // The timer runs out.
+    pub fn timer(self, reply: &mut [u8]) -> PlainOutcome
+        ensures { λ r. ⌜ TimerCall self (now (reply .entry)) (now (reply .exit)) r ⌝ }
+    {
+        if WAIT < self.state {
+            return self.ill_formed();
+        }
+        plain_outcome(self.link().timer(reply))
+    }
+
+    // The upper layer hands a payload down.
+    pub fn payload(self, p: &[u8], reply: &mut [u8]) -> PlainOutcome
+        ensures { λ r. ⌜ PayloadCall self (now (p .entry)) (now (reply .entry)) (now (reply .exit)) r ⌝ }
+    {
+        if WAIT < self.state {
+            return self.ill_formed();
+        }
+        plain_outcome(self.link().payload(p, reply))
+    }
+
+    // A packet arrives.
+    pub fn arrival(self, packet: &[u8], reply: &mut [u8]) -> PlainOutcome
+        ensures { λ r. ⌜ ArrivalCall self (now (packet .entry)) (now (reply .entry)) (now (reply .exit)) r ⌝ }
+    {
+        if WAIT < self.state {
+            return self.ill_formed();
+        }
+        plain_outcome(self.link().arrival(packet, reply))
+    }
+
+    // The link that the numbers say; only for a state of the four.
+    fn link(self) -> Link
+        ensures { λ r. ⌜ r ≡ linkOf self ⌝ }
+    {
+        let q = self.queue;
+        let s = state_of(self.state);
+        Link {
+            state: s,
+            queue: q,
+            base: self.base,
+            expected: self.expected,
+        }
+    }
+
+    // A value whose state is none of the four comes back as it is.
+    fn ill_formed(self) -> PlainOutcome
+        ensures { λ r. ⌜ r ≡ record { link = self; answer = answerOf (refuse (view self) illFormed) } ⌝ }
+    {
+        PlainOutcome {
+            link: self,
+            answer: Answer {
+                code: ILL_FORMED,
+                upper_reset: false,
+                delivered: false,
+                sent: 0,
+                lengths: [0; Queue::SLOTS],
+            },
+        }
+    }
+}
+
+// A state by its number; what is none of the four counts as the last.
+fn state_of(n: u8) -> State
+    ensures { λ r. ⌜ r ≡ stateOf n ⌝ }
+{
+    if n == IDLE {
+        return State::Idle;
+    }
+    if n == RESET {
+        return State::Reset;
+    }
+    if n == DATA {
+        return State::Data;
+    }
+    State::Wait
+}
+
+fn number_of(s: State) -> u8
+    ensures { λ r. ⌜ r ≡ numberOf s ⌝ }
+{
+    match s {
+        State::Idle => IDLE,
+        State::Reset => RESET,
+        State::Data => DATA,
+        State::Wait => WAIT,
+    }
+}
+
+fn plain(l: Link) -> PlainLink
+    ensures { λ r. ⌜ r ≡ plainOf l ⌝ }
+{
+    let q = l.queue;
+    let s = l.state;
+    PlainLink {
+        state: number_of(s),
+        queue: q,
+        base: l.base,
+        expected: l.expected,
+    }
+}
+
+fn plain_outcome(o: Outcome) -> PlainOutcome
+    ensures { λ r. ⌜ r ≡ outcomeOf o ⌝ }
+{
+    let l = o.link;
+    let a = o.answer;
+    PlainOutcome {
+        link: plain(l),
+        answer: a,
+    }
+}

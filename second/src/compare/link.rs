@@ -1,0 +1,77 @@
+//! The DLC link: single calls first, from links of every kind, then two ends and the lines between them.
+mod call;
+mod ends;
+mod make;
+mod runs;
+
+use super::tally::Tally;
+use crate::archive;
+use call::{compare, view, Event, Place};
+use make::{FAULTS, PACKETS, PAYLOADS, ROOMS, SHAPES};
+pub use runs::{two_ends, NUMBERS as RUN_NUMBERS};
+use second::link::{Link, REPLY};
+use second::rng::Rng;
+
+pub const NUMBERS: [u8; 9] = [0, 20, 21, 22, 23, 24, 25, 26, 27];
+
+fn one(rng: &Rng, link: &archive::link::Link, event: &Event, room: usize, tally: &mut Tally) {
+    let place = Place {
+        archive: link,
+        second: view(link),
+        room,
+        seed: rng.octet(),
+    };
+    compare(place, event, tally);
+}
+
+/// Every first octet as a packet of its own, in every state with every queue length, with all numbers.
+fn every_octet(rng: &Rng, tally: &mut Tally) {
+    for shape in SHAPES {
+        for (base, expected) in (0..=255).map(|n| (n / 16, n % 16)) {
+            let link = make::link(rng, shape, base, expected);
+            for first in 0..=255 {
+                one(rng, &link, &Event::Arrival(vec![first]), REPLY, tally);
+            }
+        }
+    }
+}
+
+/// Start, timer, payloads and packets at the borders of their lengths; each kind of packet with every low nibble.
+fn border_events(rng: &Rng) -> Vec<Event> {
+    let mut events = vec![Event::Start, Event::Timer, Event::Arrival(Vec::new())];
+    events.extend(PAYLOADS.map(|size| Event::Payload(rng.octets(size))));
+    for first in 0..=255 {
+        for length in PACKETS {
+            let packet = [&[first], &rng.octets(length - 1)[..]].concat();
+            events.push(Event::Arrival(packet));
+        }
+    }
+    events
+}
+
+/// Links of every shape and fault with every reply buffer and every event at a border, so that all refusals meet.
+fn grid(rng: &Rng, tally: &mut Tally) {
+    let events = border_events(rng);
+    for room in ROOMS {
+        for kind in 0..SHAPES.len() + FAULTS {
+            for event in &events {
+                let link = match SHAPES.get(kind) {
+                    Some(&shape) => make::shaped(rng, shape),
+                    None => make::ill_formed(rng, kind - SHAPES.len()),
+                };
+                one(rng, &link, event, room, tally);
+            }
+        }
+    }
+}
+
+pub fn calls(rng: &Rng, count: u64, tally: &mut Tally) {
+    let fresh = view(&archive::link::fresh());
+    tally.input(&Some(Link::fresh()), &fresh, || "fresh".to_string());
+    every_octet(rng, tally);
+    grid(rng, tally);
+    for _ in 0..count {
+        let link = make::any_link(rng);
+        one(rng, &link, &make::event(rng, &link), make::room(rng), tally);
+    }
+}

@@ -1,0 +1,199 @@
+//! Two ends and the lines between them, side by side in both programs. In most runs lines only lose packets, and then the
+//! paper's demand 3 is checked of the archive: what is delivered is an initial part of what was accepted at the other end
+//! since both were opened; where timers wait for a drained line, DATA sent are at most those accepted and seven for each
+//! lost packet. In the other runs packets are also invented, changed and repeated and ends replaced; they are compared alone.
+use super::super::tally::Tally;
+use super::call::{compare, refused, view, Event, Given, Place};
+use crate::archive::link as archive;
+use second::link::{self, REPLY};
+use second::rng::Rng;
+use std::collections::VecDeque;
+
+const INITIAL_PART: &str = "delivered is an initial part of accepted";
+const BOUND: &str = "DATA sent are within the bound";
+const ALL: &str = "all accepted is delivered once nothing is lost";
+const FORMED: &str = "27 answers no link of a run";
+const RESTARTS: &str = "number restarts";
+
+pub struct End {
+    pub archive: archive::Link,
+    pub second: Option<link::Link>,
+    /// packets on their way to this end
+    pub line: VecDeque<Vec<u8>>,
+    /// payloads accepted at this end since both were opened
+    pub accepted: Vec<Vec<u8>>,
+    /// how many of the other end's were delivered at this one since then
+    pub delivered: usize,
+    /// DATA sent by this end since then, repeats too
+    pub sent: usize,
+    /// packets lost since then: DATA of this end, DACKs to it
+    pub lost: usize,
+}
+
+pub struct Ends<'a> {
+    pub rng: &'a Rng,
+    pub tally: &'a mut Tally,
+    pub ends: [End; 2],
+    /// whether the lines only lose packets, so that the claims are due
+    pub claimed: bool,
+    /// whether each end's timer waits until none of its DATA and no DACK to it is on the line
+    pub waits: bool,
+    /// a packet is lost once in so many steps
+    pub loss: usize,
+    pub calls: u64,
+}
+
+pub fn fresh_end() -> End {
+    let archive = archive::fresh();
+    End {
+        second: view(&archive),
+        archive,
+        line: VecDeque::new(),
+        accepted: Vec::new(),
+        delivered: 0,
+        sent: 0,
+        lost: 0,
+    }
+}
+
+pub fn is_data(packet: &[u8]) -> bool {
+    packet.first().is_some_and(|x| x & 0xF0 == 0x40)
+}
+
+pub fn is_dack(packet: &[u8]) -> bool {
+    packet.first().is_some_and(|x| x & 0xF0 == 0x50)
+}
+
+impl Ends<'_> {
+    /// One call at an end, whose packets join the other end's line; its number.
+    pub fn call(&mut self, end: usize, event: Event, room: usize) -> u8 {
+        let place = Place {
+            archive: &self.ends[end].archive,
+            second: self.ends[end].second.clone(),
+            room,
+            seed: self.rng.octet(),
+        };
+        let given = compare(place, &event, self.tally);
+        let number = given.archive.answer.number;
+        self.calls += 1;
+        self.record(end, &event, &given);
+        self.tally.claim(FORMED, number != 27);
+        self.check_bound(end, &given.packets);
+        self.ends[1 - end].line.extend(given.packets);
+        self.ends[end].archive = given.archive.link;
+        self.ends[end].second = given.second;
+        number
+    }
+
+    /// What was accepted and delivered, as the archive says; and how often numbers restart.
+    fn record(&mut self, end: usize, event: &Event, given: &Given) {
+        let (before, outcome) = (&self.ends[end].archive, &given.archive);
+        if outcome.answer.upper_reset == 0 {
+            let restarts = u64::from(outcome.link.base < before.base)
+                + u64::from(outcome.link.expected < before.expected);
+            self.tally.count(RESTARTS, restarts);
+        }
+        match event {
+            Event::Payload(payload) if !refused(outcome.answer.number) => {
+                self.ends[end].accepted.push(payload.clone());
+            }
+            Event::Arrival(packet) if outcome.answer.delivered != 0 => {
+                self.tally.count("delivered", 1);
+                let index = self.ends[end].delivered;
+                let accepted = self.ends[1 - end].accepted.get(index);
+                let holds = accepted.map(Vec::as_slice) == packet.get(1..);
+                if self.claimed {
+                    self.tally.claim(INITIAL_PART, holds);
+                }
+                self.ends[end].delivered += 1;
+            }
+            _ => {}
+        }
+    }
+
+    /// Counts the DATA that a call has sent, and looks whether there are too many.
+    fn check_bound(&mut self, end: usize, packets: &[Vec<u8>]) {
+        let data = packets.iter().filter(|packet| is_data(packet)).count();
+        let end = &mut self.ends[end];
+        end.sent += data;
+        if self.claimed && self.waits && data > 0 {
+            let most = end.accepted.len() + 7 * end.lost;
+            self.tally.claim(BOUND, end.sent <= most);
+        }
+    }
+
+    /// The front packet of an end's line arrives; with too small a reply buffer it is lost.
+    pub fn arrival(&mut self, end: usize, room: usize) {
+        if let Some(packet) = self.ends[end].line.pop_front() {
+            if self.call(end, Event::Arrival(packet.clone()), room) == 26 {
+                self.count_lost(end, &packet);
+            }
+        }
+    }
+
+    /// A packet on its way to an end is lost: DATA counts for its sender, a DACK for the end it was sent to.
+    fn count_lost(&mut self, end: usize, packet: &[u8]) {
+        self.ends[1 - end].lost += usize::from(is_data(packet));
+        self.ends[end].lost += usize::from(is_dack(packet));
+    }
+
+    /// Arrivals until both lines are empty, or for so many calls as can't be needed.
+    fn drain(&mut self) {
+        for _ in 0..10_000 {
+            let Some(end) = (0..2).find(|&end| !self.ends[end].line.is_empty()) else {
+                return;
+            };
+            self.arrival(end, REPLY);
+        }
+        panic!("lines that don't become empty");
+    }
+
+    /// One end starts afresh, over lines that may lose the packets; at last both are open and the lines empty.
+    pub fn open(&mut self, end: usize) {
+        self.ends[0].line.clear();
+        self.ends[1].line.clear();
+        self.ends[end] = fresh_end();
+        self.call(end, Event::Start, REPLY);
+        // more often than losses can ask for
+        for _ in 0..1_000 {
+            if self.ends[end].archive.state != 1 {
+                break;
+            }
+            self.call(end, Event::Timer, REPLY);
+            self.lose(1 - end);
+            self.arrival(1 - end, REPLY);
+            self.lose(end);
+            self.arrival(end, REPLY);
+        }
+        self.drain();
+        for end in &mut self.ends {
+            end.accepted.clear();
+            (end.delivered, end.sent, end.lost) = (0, 0, 0);
+        }
+        self.tally.count("openings", 1);
+    }
+
+    /// Once in a while a packet of an end's line is lost.
+    pub fn lose(&mut self, end: usize) {
+        let line = &mut self.ends[end].line;
+        if !line.is_empty() && self.rng.once_in(self.loss) {
+            let packet = line.remove(self.rng.below(line.len()));
+            self.count_lost(end, &packet.expect("an index of the line"));
+            self.tally.count("lost on the line", 1);
+        }
+    }
+
+    /// Without loss: what is on the line arrives, then each end's queue is sent and acknowledged.
+    pub fn settle(&mut self) {
+        self.drain();
+        for end in 0..2 {
+            self.call(end, Event::Timer, REPLY);
+            self.drain();
+        }
+        for end in 0..2 {
+            let all = self.ends[1 - end].delivered == self.ends[end].accepted.len();
+            self.tally
+                .claim(ALL, all && self.ends[end].archive.state == 2);
+        }
+    }
+}
