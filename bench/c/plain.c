@@ -1,4 +1,5 @@
 #include "plain.h"
+#include <string.h>
 
 enum { FLAG = 0x7E, ESCAPE = 0x7D, MASK = 0x20, LONGEST = 2561 };
 
@@ -75,6 +76,25 @@ struct plain_answer plain_qaft_read(struct plain_reader r, const uint8_t *chunk,
         }
     }
     return (struct plain_answer){15, length, 0, r};
+}
+
+/* The link's timer with something queued, by the header's types; the link is trusted. */
+hasfandur_dlc_outcome plain_dlc_timer(hasfandur_dlc_link link, uint8_t *reply, size_t reply_length)
+{
+    hasfandur_dlc_outcome outcome = {.link = link};
+    if (reply_length < HASFANDUR_DLC_REPLY) {
+        outcome.answer.number = HASFANDUR_DLC_REPLY_TOO_SMALL;
+        return outcome;
+    }
+    for (size_t i = 0; i < link.queue.count; i++) {
+        const hasfandur_dlc_queued *slot = &link.queue.slots[i];
+        *reply = (uint8_t)(0x40 | ((link.base + i) & 0x0F));
+        memcpy(reply + 1, slot->octets, slot->length);
+        reply += 1 + slot->length;
+        outcome.answer.lengths[i] = 1 + slot->length;
+    }
+    outcome.answer.sent = link.queue.count;
+    return outcome;
 }
 
 /* the carry added in again after each octet */

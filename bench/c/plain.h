@@ -2,6 +2,7 @@
 #ifndef PLAIN_H
 #define PLAIN_H
 
+#include "../../include/hasfandur.h"
 #include <stdbool.h>
 #include <stddef.h>
 #include <stdint.h>
@@ -23,6 +24,7 @@ struct plain_answer {
 
 size_t plain_qaft_write(uint8_t level, bool at_flag, const uint8_t *octets, size_t length, uint8_t *out, size_t room);
 struct plain_answer plain_qaft_read(struct plain_reader reader, const uint8_t *chunk, size_t length, uint8_t *store);
+hasfandur_dlc_outcome plain_dlc_timer(hasfandur_dlc_link link, uint8_t *reply, size_t reply_length);
 uint8_t plain_sum_by_octets(const uint8_t *octets, size_t length);
 uint8_t plain_sum_at_end(const uint8_t *octets, size_t length);
 void plain_make_table(void);

@@ -1,14 +1,20 @@
 //! Times the proved archive beside others, in one process and in CPU time. See docs/SPEED.md.
 mod afp;
-#[allow(dead_code)] // the benchmark needs fewer functions than the comparison does
-#[path = "../../second/src/archive.rs"]
-mod archive;
 mod clock;
+mod link;
 mod others;
 mod qaft;
 mod row;
 
 use row::Row;
+use wrappers::archive;
+
+/// The archive's functions, as the comparison calls them; the benchmark needs fewer.
+#[allow(dead_code)]
+#[path = "../../second/src"]
+mod wrappers {
+    pub mod archive;
+}
 
 /// Each contender is timed this many times, all in turn, and the best time counts.
 const ROUNDS: usize = 25;
@@ -25,7 +31,7 @@ fn main() {
         println!("libosmocore is not there: no row has it");
     }
     println!("ns of CPU, best of {rounds}; ratio: the best other's time over ours");
-    for make in qaft::ROWS.iter().chain(afp::ROWS) {
+    for make in qaft::ROWS.iter().chain(afp::ROWS).chain(link::ROWS) {
         let row: Row = make();
         row.print(rounds);
     }

@@ -1,4 +1,5 @@
 //! The contenders in C, with safe wrappers: plain C (c/plain.c), and packaged libraries where they are there.
+use crate::archive::link::{Link, Outcome};
 use second::reader::{Answer, State};
 
 #[repr(C)]
@@ -35,6 +36,7 @@ extern "C" {
     ) -> RawAnswer;
     fn plain_sum_by_octets(octets: *const u8, length: usize) -> u8;
     fn plain_sum_at_end(octets: *const u8, length: usize) -> u8;
+    fn plain_dlc_timer(link: Link, reply: *mut u8, reply_length: usize) -> Outcome;
     fn plain_make_table();
     fn plain_check_by_table(octets: *const u8, length: usize) -> u16;
     fn plain_check_by_bits(octets: *const u8, length: usize) -> u16;
@@ -76,6 +78,10 @@ pub fn qaft_read(from: State, chunk: &[u8], store: &mut [u8]) -> (State, Answer)
         length: raw.length,
     };
     (state, answer)
+}
+
+pub fn dlc_timer(link: Link, reply: &mut [u8]) -> Outcome {
+    unsafe { plain_dlc_timer(link, reply.as_mut_ptr(), reply.len()) }
 }
 
 pub fn sum_by_octets(octets: &[u8]) -> u8 {
