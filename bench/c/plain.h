@@ -25,6 +25,10 @@ struct plain_answer {
 size_t plain_qaft_write(uint8_t level, bool at_flag, const uint8_t *octets, size_t length, uint8_t *out, size_t room);
 struct plain_answer plain_qaft_read(struct plain_reader reader, const uint8_t *chunk, size_t length, uint8_t *store);
 hasfandur_dlc_outcome plain_dlc_timer(hasfandur_dlc_link link, uint8_t *reply, size_t reply_length);
+hasfandur_reading plain_afp_read(const uint8_t *frame, size_t length);
+hasfandur_written plain_afp_write(uint8_t protocol, const uint8_t *stations, size_t stations_length, size_t next,
+                                  const uint8_t *supplementary, size_t supplementary_length, const uint8_t *octets,
+                                  size_t length, uint8_t *out, size_t room);
 uint8_t plain_sum_by_octets(const uint8_t *octets, size_t length);
 uint8_t plain_sum_at_end(const uint8_t *octets, size_t length);
 void plain_make_table(void);

@@ -131,6 +131,7 @@ fn reader(what: &'static str, fields: Fields) -> Row {
         on(frame, move |f| end(archive::afp_read(f))),
     )
     .beside("second", on(frame, move |f| end(afp::read(f))))
+    .beside("plain C", on(frame, move |f| end(others::afp_read(f))))
 }
 
 fn writer(what: &'static str, fields: Fields) -> Row {
@@ -143,5 +144,7 @@ fn writer(what: &'static str, fields: Fields) -> Row {
                 .sum()
         }
     };
-    Row::new(what, "frame", CALLS, by(archive::afp_write)).beside("second", by(afp::write))
+    Row::new(what, "frame", CALLS, by(archive::afp_write))
+        .beside("second", by(afp::write))
+        .beside("plain C", by(others::afp_write))
 }

@@ -33,11 +33,11 @@ fn sent(lengths: &[usize], reply: &[u8]) -> usize {
 }
 
 fn by_value(timer: fn(archive::Link, &mut [u8]) -> archive::Outcome) -> impl FnMut() -> usize {
-    let (mut link, mut reply) = (waiting(), vec![0; REPLY]);
+    let (waiting, mut reply) = (waiting(), vec![0; REPLY]);
     move || {
-        let mut total = 0;
+        let (mut link, mut total) = (waiting.clone(), 0);
         for _ in 0..EVENTS {
-            let outcome = timer(link.clone(), &mut reply);
+            let outcome = timer(link, &mut reply);
             link = outcome.link;
             total += sent(&outcome.answer.lengths, &reply);
         }

@@ -1,6 +1,8 @@
 //! The contenders in C, with safe wrappers: plain C (c/plain.c), and packaged libraries where they are there.
 use crate::archive::link::{Link, Outcome};
+use second::afp::{Part, Reading};
 use second::reader::{Answer, State};
+use second::Written;
 
 #[repr(C)]
 struct RawReader {
@@ -17,6 +19,30 @@ struct RawAnswer {
     taken: usize,
     length: usize,
     reader: RawReader,
+}
+
+#[repr(C)]
+struct RawWritten {
+    number: u8,
+    length: usize,
+}
+
+#[repr(C)]
+struct RawPart {
+    place: usize,
+    size: usize,
+}
+
+#[repr(C)]
+struct RawReading {
+    number: u8,
+    protocol: u8,
+    stations: RawPart,
+    ids: usize,
+    next: usize,
+    supplementary: RawPart,
+    payload: RawPart,
+    unchecked: bool,
 }
 
 extern "C" {
@@ -37,6 +63,19 @@ extern "C" {
     fn plain_sum_by_octets(octets: *const u8, length: usize) -> u8;
     fn plain_sum_at_end(octets: *const u8, length: usize) -> u8;
     fn plain_dlc_timer(link: Link, reply: *mut u8, reply_length: usize) -> Outcome;
+    fn plain_afp_read(frame: *const u8, length: usize) -> RawReading;
+    fn plain_afp_write(
+        protocol: u8,
+        stations: *const u8,
+        stations_length: usize,
+        next: usize,
+        supplementary: *const u8,
+        supplementary_length: usize,
+        octets: *const u8,
+        length: usize,
+        out: *mut u8,
+        room: usize,
+    ) -> RawWritten;
     fn plain_make_table();
     fn plain_check_by_table(octets: *const u8, length: usize) -> u16;
     fn plain_check_by_bits(octets: *const u8, length: usize) -> u16;
@@ -82,6 +121,57 @@ pub fn qaft_read(from: State, chunk: &[u8], store: &mut [u8]) -> (State, Answer)
 
 pub fn dlc_timer(link: Link, reply: &mut [u8]) -> Outcome {
     unsafe { plain_dlc_timer(link, reply.as_mut_ptr(), reply.len()) }
+}
+
+fn part(raw: RawPart) -> Part {
+    Part {
+        place: raw.place,
+        size: raw.size,
+    }
+}
+
+pub fn afp_read(frame: &[u8]) -> Reading {
+    let raw = unsafe { plain_afp_read(frame.as_ptr(), frame.len()) };
+    Reading {
+        number: raw.number,
+        protocol: raw.protocol,
+        stations: part(raw.stations),
+        ids: raw.ids,
+        next: raw.next,
+        supplementary: part(raw.supplementary),
+        payload: part(raw.payload),
+        unchecked: raw.unchecked,
+    }
+}
+
+/// The station fields have fewer than 128 IDs.
+pub fn afp_write(
+    protocol: u8,
+    stations: &[u8],
+    next: usize,
+    supplementary: &[u8],
+    data: &[u8],
+    out: &mut [u8],
+) -> Written {
+    assert!(stations.len() < second::afp::MAX_HEADER);
+    let raw = unsafe {
+        plain_afp_write(
+            protocol,
+            stations.as_ptr(),
+            stations.len(),
+            next,
+            supplementary.as_ptr(),
+            supplementary.len(),
+            data.as_ptr(),
+            data.len(),
+            out.as_mut_ptr(),
+            out.len(),
+        )
+    };
+    Written {
+        number: raw.number,
+        length: raw.length,
+    }
 }
 
 pub fn sum_by_octets(octets: &[u8]) -> u8 {
