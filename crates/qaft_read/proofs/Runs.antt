@@ -93,40 +93,55 @@ module _ (r : Reader) (s : r .synced ≡ true) (p : r .pending ≡ false) where
       let q = plain-octet 0 x e in
       rw (q .0, s, p, q .1, lt-ltb (r .count) maxSegment h)
 
+-- the state after no octets, and after some
+pub withRun-none : (r : Reader) (xs : List ℕ) → length xs ≡ 0 → r ≡ withRun r xs
+unfolding withRun
+withRun-none r [] e = refl
+withRun-none r (x ∷ xs) e = absurd (omega (arith, e))
+
+pub withRun-some : (r : Reader) (xs : List ℕ) (s : ℕ) → (length xs ≡ 0 → ⊥) → s ≡ (r .sum + sum xs) % 256
+    → _≡_ {A = Reader} record { level = r .level; synced = r .synced; pending = r .pending; count = r .count + length xs; sum = s } (withRun r xs)
+unfolding withRun
+withRun-some r [] s h e = absurd (h refl)
+withRun-some r (x ∷ xs) s h e = λ i. record { level = r .level; synced = r .synced; pending = r .pending; count = r .count + length (x ∷ xs); sum = e i }
+
+-- nothing put down changes nothing
+pub sets-none : (xs m : List ℕ) (i : ℕ) → length xs ≡ 0 → m ≡ sets m i xs
+sets-none [] m i e = refl
+sets-none (x ∷ xs) m i e = absurd (omega (arith, e))
+
 -- the state after a run of one octet more
 withRun-cons : (r : Reader) (x : ℕ) (xs : List ℕ) → r .pending ≡ false → r .count < maxSegment → withRun (joined r x) xs ≡ withRun r (x ∷ xs)
 unfolding withRun joined sum
-withRun-cons r x xs p h =
-    let e : cond (ltb (r .count) maxSegment) (r .count + 1) countCap + length xs ≡ r .count + suc (length xs) = rw (lt-ltb (r .count) maxSegment h) (omega arith) in
-    let f : ((r .sum + x) % 256 + sum xs) % 256 ≡ (r .sum + (x + sum xs)) % 256 = omega arith in
+withRun-cons r x [] p h =
+    let e : cond (ltb (r .count) maxSegment) (r .count + 1) countCap ≡ r .count + 1 = rw (lt-ltb (r .count) maxSegment h) in
+    let f : (r .sum + x) % 256 ≡ (r .sum + (x + 0)) % 256 = omega arith in
+    λ i. record { level = r .level; synced = r .synced; pending = sym p i; count = e i; sum = f i }
+withRun-cons r x (y ∷ xs) p h =
+    let e : cond (ltb (r .count) maxSegment) (r .count + 1) countCap + suc (length xs) ≡ r .count + suc (suc (length xs)) = rw (lt-ltb (r .count) maxSegment h) (omega arith) in
+    let f : ((r .sum + x) % 256 + (y + sum xs)) % 256 ≡ (r .sum + (x + (y + sum xs))) % 256 = omega arith in
     λ i. record { level = r .level; synced = r .synced; pending = sym p i; count = e i; sum = f i }
 
-withRun-nil : (r : Reader) → r .sum < 256 → r ≡ withRun r []
-unfolding withRun sum
-withRun-nil r h =
-    let e : r .count ≡ r .count + 0 = omega arith in
-    let f : r .sum ≡ (r .sum + 0) % 256 = omega arith in
-    λ i. record { level = r .level; synced = r .synced; pending = r .pending; count = e i; sum = f i }
-
 -- a run before the octets ys
-scan-run : (xs ys : List ℕ) (r : Reader) (m : List ℕ) → (length xs ≡ 0 → r .sum < 256) → Run r xs
+scan-run : (xs ys : List ℕ) (r : Reader) (m : List ℕ) → (0 < length xs → Run r xs)
     → scan action r (xs ++ ys) m ≡ after (length xs) (scan action (withRun r xs) ys (sets m (r .count) xs))
-unfolding scan scanOn plain joined
-scan-run [] ys r m h ok = after-zero _ ∙ ap (λ (t : Reader). after 0 (scan action t ys m)) (withRun-nil r (h refl))
-scan-run (x ∷ xs) ys r m h ok =
+unfolding scan scanOn plain joined withRun
+scan-run [] ys r m run = after-zero _
+scan-run (x ∷ xs) ys r m run =
+    let ok = run (omega arith) in
     let e = both (isEscaped 0 x) (plain xs) (ok .3) in
     let room : r .count < maxSegment = omega (arith, ok .2) in
     let k : joined r x .count ≡ suc (r .count) = rw (lt-ltb (r .count) maxSegment room) (omega arith) in
     let rest : joined r x .count + length xs ≤ maxSegment = omega (arith, k, ok .2) in
     let n : 1 + length xs ≡ suc (length xs) = omega arith in
     ap (λ (a : line.Action Reader Report). scanOn a (λ t n. scan action t (xs ++ ys) n) m) (step-plain r (ok .0) (ok .1) x (e .0) room)
-    ∙ ap (after 1) (scan-run xs ys (joined r x) (set m (r .count) x) (λ _. omega arith) (ok .0, refl, rest, e .1))
+    ∙ ap (after 1) (scan-run xs ys (joined r x) (set m (r .count) x) (λ _. (ok .0, refl, rest, e .1)))
     ∙ after-after 1 (length xs) _
     ∙ ap₂ (λ (j c : ℕ). after j (scan action (withRun (joined r x) xs) ys (sets (set m (r .count) x) c xs))) n k
     ∙ ap (λ (t : Reader). after (suc (length xs)) (scan action t ys (sets m (r .count) (x ∷ xs)))) (withRun-cons r x xs (ok .1) room)
 
 -- a loop over the chunk xs that stands at octet i, and a run of n octets that was found at the front of what is left
-module _ (r : Reader) (xs : List ℕ) (i n : ℕ) (h : i ≤ length xs) (some : 0 < n)
+module _ (r : Reader) (xs : List ℕ) (i n : ℕ) (h : i ≤ length xs)
     (b : n ≤ length (take (length xs - i) (drop i xs))) (found : 0 < n → Run r (take n (take (length xs - i) (drop i xs)))) where
   left : take (length xs - i) (drop i xs) ≡ drop i xs
   left = take-all (length xs - i) (drop i xs) (rw (length-drop i xs) (omega arith))
@@ -134,20 +149,26 @@ module _ (r : Reader) (xs : List ℕ) (i n : ℕ) (h : i ≤ length xs) (some : 
   pub run-fits : i + n ≤ length xs
   run-fits = omega (arith, b, ap length left, length-drop i xs, h)
 
-  pub run-part : Run r (take (i + n - i) (drop i xs))
-  run-part =
-      let e : n ≡ i + n - i = omega arith in
-      subst (Run r) (ap₂ (λ (k : ℕ) (l : List ℕ). take k l) e left) (found some)
+  k : i + n - i ≡ n
+  k = omega arith
+
+  length-part : length (take (i + n - i) (drop i xs)) ≡ n
+  length-part = length-take-le (i + n - i) (drop i xs) (rw (length-drop i xs) (omega (arith, run-fits))) ∙ k
+
+  -- the part of the chunk from i to i + n is a run, if there is any of it
+  run-part : 0 < length (take (i + n - i) (drop i xs)) → Run r (take (i + n - i) (drop i xs))
+  run-part s = subst (Run r) (ap₂ (λ (k : ℕ) (l : List ℕ). take k l) (sym k) left) (found (omega (arith, s, length-part)))
+
+  pub run-room : 0 < length (take (i + n - i) (drop i xs)) → r .count + length (take (i + n - i) (drop i xs)) ≤ maxSegment
+  run-room s = run-part s .2
 
   pub scan-run-turn : (m m' : List ℕ) (t : Reader) → t ≡ withRun r (take (i + n - i) (drop i xs)) → m' ≡ sets m (r .count) (take (i + n - i) (drop i xs))
       → after i (scan action r (drop i xs) m) ≡ after (i + n) (scan action t (drop (i + n) xs) m')
   scan-run-turn m m' t e f =
       let run = take (i + n - i) (drop i xs) in
-      let k : i + n - i ≡ n = omega arith in
-      let l : length run ≡ n = length-take-le (i + n - i) (drop i xs) (rw (length-drop i xs) (omega (arith, run-fits))) ∙ k in
       let d : drop (i + n - i) (drop i xs) ≡ drop (i + n) xs = drop-drop (i + n - i) i xs ∙ ap (λ (k : ℕ). drop (i + k) xs) k in
       ap (λ (l : List ℕ). after i (scan action r l m)) (sym (take-append-drop (i + n - i) (drop i xs)))
-      ∙ ap (after i) (scan-run run (drop (i + n - i) (drop i xs)) r m (λ e. absurd (omega (arith, e, l, some))) run-part)
+      ∙ ap (after i) (scan-run run (drop (i + n - i) (drop i xs)) r m run-part)
       ∙ after-after i (length run) _
-      ∙ ap₂ (λ (k : ℕ) (l : List ℕ). after (i + k) (scan action (withRun r run) l (sets m (r .count) run))) l d
+      ∙ ap₂ (λ (k : ℕ) (l : List ℕ). after (i + k) (scan action (withRun r run) l (sets m (r .count) run))) length-part d
       ∙ ap₂ (λ (t : Reader) (m : List ℕ). after (i + n) (scan action t (drop (i + n) xs) m)) (sym e) (sym f)

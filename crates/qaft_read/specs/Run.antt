@@ -21,10 +21,11 @@ Run r xs = (r .synced ≡ true) × (r .pending ≡ false) × (r .count + length 
 
 -- the state after the run xs
 unfoldable pub withRun : Reader → (xs : List ℕ) → Reader
-withRun r xs = record {
+withRun r [] = r
+withRun r (x ∷ xs) = record {
   level = r .level;
   synced = r .synced;
   pending = r .pending;
-  count = r .count + length xs;
-  sum = (r .sum + sum xs) % 256;
+  count = r .count + length (x ∷ xs);
+  sum = (r .sum + sum (x ∷ xs)) % 256;
 }

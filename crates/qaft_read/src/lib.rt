@@ -132,11 +132,10 @@ impl Reader {
         let mut i = 0;
         while i < chunk.len() {
             let n = run::run_length(r, &chunk[i..]);
-            if 0 < n {
-                let end = i + n;
-                r = run::with_run(r, &chunk[i..end], buffer);
-                i = end;
-            } else {
+            let end = i + n;
+            r = run::with_run(r, &chunk[i..end], buffer);
+            i = end;
+            if i < chunk.len() {
                 let x = chunk[i];
                 i += 1;
                 let action = r.step(x);

@@ -36,13 +36,16 @@ pub fn run_length(reader: Reader, octets: &[u8]) -> usize
     0
 }
 
-// A run joins the segment.
+// A run joins the segment. No octets are no run, and change nothing.
 pub fn with_run(reader: Reader, octets: &[u8], buffer: &mut [u8]) -> Reader
-    requires { ⌜ reader .count + length (now octets) ≤ maxSegment ⌝ }
+    requires { ⌜ (0 < length (now octets) → reader .count + length (now octets) ≤ maxSegment) ⌝ }
     requires { ⌜ maxSegment ≤ length (now buffer) ⌝ }
     ensures { λ r. ⌜ r ≡ withRun reader (now (octets .entry)) ⌝ }
     ensures { λ _. ⌜ now (buffer .exit) ≡ sets (now (buffer .entry)) (reader .count) (now (octets .entry)) ⌝ }
 {
+    if octets.len() == 0 {
+        return reader;
+    }
     let n = reader.count;
     store(octets, buffer, n);
     let c = qaft::check_octet(octets);
