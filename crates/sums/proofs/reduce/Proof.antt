@@ -10,6 +10,9 @@ use Rattle.sums.proofs.reduce.Tie as tie
 wide-requires : tie.Need-wide-requires
 wide-requires c κs = search needs
 
+cast-v : tie.Need-cast-v
+cast-v c = search needs
+
 add-v : tie.Need-add-v
 add-v c = search needs
 
@@ -32,4 +35,5 @@ returns-2 c =
 
 pub reduce-spec : {M : Type 1} → statement M
 reduce-spec =
-    tie.close (tie.spec wide-requires add-v returns sub-result add-result cast-result returns-2)
+    tie.close
+    (tie.spec wide-requires cast-v add-v returns sub-result add-result cast-result returns-2)

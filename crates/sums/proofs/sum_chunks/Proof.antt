@@ -39,8 +39,11 @@ total-requires c κs =
     let n = length-take-le (c .before .chunk-end .result - l .i) (drop (l .i) (c .before .before .before .before .before .args .octets .now)) (rw (length-drop (l .i) (c .before .before .before .before .before .args .octets .now)) (omega arith)) in
     omega (arith, n, e .2)
 
+cast-reduce : tie.Need-cast-reduce Inv-loop μ-loop
+cast-reduce c = search needs
+
 reduce-requires : tie.Need-reduce-requires Inv-loop μ-loop
-reduce-requires c κs = c .total .ensures .0
+reduce-requires c κs = omega (arith, c .total .ensures .0)
 
 loop-less : tie.Need-loop-less Inv-loop μ-loop
 loop-less c = omega arith
@@ -73,6 +76,7 @@ sum-chunks-spec =
     part-total-start
     part-total-end
     total-requires
+    cast-reduce
     reduce-requires
     loop-less
     loop-again
