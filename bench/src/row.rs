@@ -38,6 +38,7 @@ impl Row {
     }
 
     /// Another contender, whose work is like ours and not the same.
+    #[cfg(osmocom)]
     pub fn beside_like(
         mut self,
         name: &'static str,
