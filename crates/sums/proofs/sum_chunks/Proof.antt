@@ -36,7 +36,8 @@ total-requires : tie.Need-total-requires Inv-loop μ-loop
 total-requires c κs =
     let l = c .before .before .before .loop in
     let e = c .before .chunk-end .ensures in
-    let n = length-take-le (c .before .chunk-end .result - l .i) (drop (l .i) (c .before .before .before .before .before .args .octets .now)) (rw (length-drop (l .i) (c .before .before .before .before .before .args .octets .now)) (omega arith)) in
+    let xs = c .before .before .before .before .before .args .octets .now in
+    let n = length-take-le (c .before .chunk-end .result - l .i) (drop (l .i) xs) (rw (length-drop (l .i) xs) (omega arith)) in
     omega (arith, n, e .2)
 
 cast-reduce : tie.Need-cast-reduce Inv-loop μ-loop
@@ -53,10 +54,11 @@ loop-again c =
     let l = c .before .before .before .before .before .loop in
     let xs = c .before .before .before .before .before .before .before .args .octets .now in
     let n = c .before .before .before .chunk-end in
-    let t = c .before .total in (
+    let t = c .before .total in
+    let e = sum-chunk (l .sum) xs (l .i) (n .result) (t .result) (l .inv .1) (omega (arith, n .ensures .0)) (t .ensures .1) in (
       n .ensures .1,
       omega arith,
-      ap (λ (v : ℕ). sumFrom v (drop (n .result) xs)) (c .reduce .ensures) ∙ sym (sum-chunk (l .sum) xs (l .i) (n .result) (t .result) (l .inv .1) (omega (arith, n .ensures .0)) (t .ensures .1)) ∙ l .inv .2,
+      ap (λ (v : ℕ). sumFrom v (drop (n .result) xs)) (c .reduce .ensures) ∙ sym e ∙ l .inv .2,
     )
 
 returns : tie.Need-returns Inv-loop μ-loop

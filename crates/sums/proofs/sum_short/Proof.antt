@@ -32,7 +32,9 @@ add-each-requires : tie.Need-add-each-requires
 add-each-requires c κs = search needs
 
 returns : tie.Need-returns
-returns c = sum-split (c .before .before .before .before .before .before .args .octets .now) _ _ _ _ (c .before .before .before .total-words .ensures .1) (c .before .before .reduce .ensures) (c .add-each .ensures)
+returns c =
+    let t = c .before .before .before .total-words in
+    sum-split (c .before .before .before .before .before .before .args .octets .now) _ _ _ _ (t .ensures .1) (c .before .before .reduce .ensures) (c .add-each .ensures)
 
 pub sum-short-spec : {M : Type 1} → statement M
 sum-short-spec =

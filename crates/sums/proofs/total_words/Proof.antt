@@ -71,7 +71,9 @@ loop-again c =
     let p = c .before .before .before .pair in
     let q = c .pair2 in
     let known = c .before .before .before .before .before .before .before .before .shared-slice-known in
-    let next = words-next (c .before .before .before .before .before .before .before .before .before .args .octets .now) (l .i) (l .t) (λ j. omega (arith, known .given j)) (l .inv .3) (omega arith) (p .result) (q .result) (p .ensures .0) (q .ensures .0) in
+    let xs = c .before .before .before .before .before .before .before .before .before .args .octets .now in
+    let more = words-next xs (l .i) (l .t) (λ j. omega (arith, known .given j)) (l .inv .3) (omega arith) in
+    let next = more (p .result) (q .result) (p .ensures .0) (q .ensures .0) in
     (omega arith, omega arith, omega (arith, l .inv .2, p .ensures .1, q .ensures .1), next)
 
 returns : tie.Need-returns Inv-loop μ-loop

@@ -45,7 +45,11 @@ run-inv c =
 
 -- the action of the octet behind it, by the step's result
 taken-action : (c : tie.After-step Inv-loop μ-loop) (a : Action) → c .step .result ≡ a
-    → action (c .before .before .before .before .before .with-run .result) (getD (c .before .before .before .before .before .before .before .before .before .before .before .before .before .before .args .chunk .now) (c .before .before .before .before .before .before .before .before .before .before .before .loop .i + c .before .before .before .before .before .before .before .before .run-length .result) 0) ≡ actionOf a
+    → let k = c .before .before .before in
+    let l = k .before .before .before .before .before .before .before .before .loop in
+    let n = k .before .before .before .before .before .run-length .result in
+    let s = k .before .before .before .before .before .before .before .before .before .before .before .args in
+    action (k .before .before .with-run .result) (getD (s .chunk .now) (l .i + n) 0) ≡ actionOf a
 unfolding action
 taken-action c a e = ap actionOf (sym (c .step .ensures) ∙ e)
 
@@ -115,7 +119,8 @@ slice-write-buffer c =
     let d = c .before .before .before in
     let k = d .before .before .before in
     let u = run-inv k in
-    omega (arith, step-index _ _ _ _ _ (sym (d .step .ensures) ∙ c .before .action2 .given .1), u .1, d .before .before .before .before .before .before .before .before .before .before .before .before .before .before .pre)
+    let index = step-index _ _ _ _ _ (sym (d .step .ensures) ∙ c .before .action2 .given .1) in
+    omega (arith, index, u .1, k .before .before .before .before .before .before .before .before .before .before .before .pre)
 
 loop-less-2 : tie.Need-loop-less-2 Inv-loop μ-loop
 loop-less-2 c = search needs

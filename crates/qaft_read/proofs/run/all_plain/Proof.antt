@@ -35,7 +35,8 @@ loop-again : tie.Need-loop-again Inv-loop μ-loop
 loop-again c =
     let l = c .before .before .before in
     let xs = l .before .before .args .octets .now in
-    (omega arith, ap (λ (b : Bool). cond b (plain (drop (l .loop .i + 1) xs)) false) (c .and-plain .ensures) ∙ sym (plain-next xs (l .loop .i) (l .loop .so-far) (omega arith)) ∙ l .loop .inv .1)
+    let e = ap (λ (b : Bool). cond b (plain (drop (l .loop .i + 1) xs)) false) (c .and-plain .ensures) in
+    (omega arith, e ∙ sym (plain-next xs (l .loop .i) (l .loop .so-far) (omega arith)) ∙ l .loop .inv .1)
 
 returns : tie.Need-returns Inv-loop μ-loop
 returns c =

@@ -36,7 +36,9 @@ returns-4 : tie.Need-returns-4
 returns-4 c =
     let s = c .before .before .before .before .before .before .before .args in
     let e = c .plain-length2 .ensures in
-    run-found-within (s .reader) (c .before .before .before .before .if2 .taken) (c .before .before .before .before .before .if1 .left) (s .octets .now) _ (2561 - s .reader .count) (omega arith) (omega arith) (e .0) (e .1)
+    let synced = c .before .before .before .before .if2 .taken in
+    let plain = c .before .before .before .before .before .if1 .left in
+    run-found-within (s .reader) synced plain (s .octets .now) _ (2561 - s .reader .count) (omega arith) (omega arith) (e .0) (e .1)
 
 returns-5 : tie.Need-returns-5
 returns-5 c = (omega arith, λ h. absurd (omega (arith, h)))

@@ -43,7 +43,8 @@ loop-again c =
     let l = c .before .before .loop in
     let e : s .at + (l .i + 1) ≡ s .at + l .i + 1 = omega arith in
     let turn = sets-next (s .octets .now) (l .buffer) (l .i) (s .at + l .i) (c .before .loop-test .taken) in
-    (omega arith, simp length-set (l .inv .1), ap (λ (k : ℕ). sets (set (l .buffer) (s .at + l .i) (getD (s .octets .now) (l .i) 0)) k (drop (l .i + 1) (s .octets .now))) e ∙ sym turn ∙ l .inv .2)
+    let later = set (l .buffer) (s .at + l .i) (getD (s .octets .now) (l .i) 0) in
+    (omega arith, simp length-set (l .inv .1), ap (λ (k : ℕ). sets later k (drop (l .i + 1) (s .octets .now))) e ∙ sym turn ∙ l .inv .2)
 
 same-length : tie.Need-same-length Inv-loop μ-loop
 same-length c = c .before .loop .inv .1
