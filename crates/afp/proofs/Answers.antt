@@ -159,51 +159,47 @@ module _ (f : List ℕ) where
   pub read-both : (r : Reading) → r ≡ readOf f → (r ≡ readOf f) × (verdict r f ≡ meaning f)
   read-both r e = (e, ap (λ (r : Reading). verdict r f) e ∙ read-meaning)
 
--- ---- the answers of `read`, from those of the functions that it calls
-module _ (f : List ℕ) (a : ℕ) (ae : a ≡ firstRefusal (envelopeRefusals f)) where
-  pub read-envelope : (v : Reading) → v ≡ refusedReading a → (a ≡ 0 → ⊥) → (v ≡ readOf f) × (verdict v f ≡ meaning f)
+-- ---- the answers of `read`, from those of the functions that it calls; each section adds a list that refuses nothing
+module _ (f : List ℕ) where
+  answered : (n : ℕ) → guarded (refusals f) refusedReading (acceptedReading f (stationsIn f)) ≡ refusedReading n → (v : Reading) → v ≡ refusedReading n
+      → (v ≡ readOf f) × (verdict v f ≡ meaning f)
   unfolding readOf
-  read-envelope v e z = read-both f v (e ∙ sym (refused-envelope refusedReading (acceptedReading f (stationsIn f)) f a ae z))
+  answered n g v e = read-both f v (e ∙ sym g)
 
-  pub frame-fits : a ≡ 0 → shortestFrame ≤ length f
-  frame-fits az = envelope-fits f (sym az ∙ ae)
+  pub read-envelope : (n : ℕ) → n ≡ firstRefusal (envelopeRefusals f) → (n ≡ 0 → ⊥) → (v : Reading) → v ≡ refusedReading n → (v ≡ readOf f) × (verdict v f ≡ meaning f)
+  read-envelope n e z = answered n (refused-envelope refusedReading (acceptedReading f (stationsIn f)) f n e z)
 
-  module _ (az : a ≡ 0) (b : ℕ) (be : b ≡ firstRefusal (fixedRefusals f)) where
-    pub read-fixed : (v : Reading) → v ≡ refusedReading b → (b ≡ 0 → ⊥) → (v ≡ readOf f) × (verdict v f ≡ meaning f)
-    unfolding readOf
-    read-fixed v e z = read-both f v (e ∙ sym (refused-fixed refusedReading (acceptedReading f (stationsIn f)) f (sym az ∙ ae) b be z))
+  module _ (a : 0 ≡ firstRefusal (envelopeRefusals f)) where
+    pub read-fixed : (n : ℕ) → n ≡ firstRefusal (fixedRefusals f) → (n ≡ 0 → ⊥) → (v : Reading) → v ≡ refusedReading n → (v ≡ readOf f) × (verdict v f ≡ meaning f)
+    read-fixed n e z = answered n (refused-fixed refusedReading (acceptedReading f (stationsIn f)) f a n e z)
 
-    module _ (bz : b ≡ 0) where
+    module _ (b : 0 ≡ firstRefusal (fixedRefusals f)) where
       pub offset-fits : (shortestHeader ≤ offset f) × (offset f + 2 ≤ length f)
-      offset-fits = let p = fixed-fits f (frame-fits az) (sym bz ∙ be) in (p .0, p .2)
+      offset-fits = let p = fixed-fits f (envelope-fits f a) b in (p .0, p .2)
 
-      module _ (r : Stations) (re : r ≡ stationsIn f) (c : ℕ) (ce : c ≡ firstRefusal (stationRefusals f r)) where
-        c-is : c ≡ firstRefusal (stationRefusals f (stationsIn f))
-        c-is = ce ∙ ap (λ (r : Stations). firstRefusal (stationRefusals f r)) re
-
+      module _ (r : Stations) (re : r ≡ stationsIn f) where
         pub end-fits : (offset f + 2 ≤ length f) × (r .end + 6 ≤ offset f)
         end-fits =
             let p = offset-fits in
             (p .1, rw re (stations-bound f (p .0) (p .1)))
 
-        pub read-station : (v : Reading) → v ≡ refusedReading c → (c ≡ 0 → ⊥) → (v ≡ readOf f) × (verdict v f ≡ meaning f)
-        unfolding readOf
-        read-station v e z =
-            read-both f v (e ∙ sym (refused-station refusedReading (acceptedReading f (stationsIn f)) f (sym az ∙ ae) (sym bz ∙ be) c c-is z))
+        pub read-station : (n : ℕ) → n ≡ firstRefusal (stationRefusals f r) → (n ≡ 0 → ⊥) → (v : Reading) → v ≡ refusedReading n → (v ≡ readOf f) × (verdict v f ≡ meaning f)
+        read-station n e z =
+            answered n
+            (refused-station refusedReading (acceptedReading f (stationsIn f)) f a b n (e ∙ ap (λ (r : Stations). firstRefusal (stationRefusals f r)) re) z)
 
-        module _ (cz : c ≡ 0) (d : ℕ) (de : d ≡ firstRefusal (restRefusals f (r .end))) where
-          d-is : d ≡ firstRefusal (restRefusals f (stationsIn f .end))
-          d-is = de ∙ ap (λ (r : Stations). firstRefusal (restRefusals f (r .end))) re
+        module _ (c : 0 ≡ firstRefusal (stationRefusals f r)) where
+          none : 0 ≡ firstRefusal (stationRefusals f (stationsIn f))
+          none = c ∙ ap (λ (r : Stations). firstRefusal (stationRefusals f r)) re
 
-          pub read-rest : (v : Reading) → v ≡ refusedReading d → (d ≡ 0 → ⊥) → (v ≡ readOf f) × (verdict v f ≡ meaning f)
+          at-end : firstRefusal (restRefusals f (r .end)) ≡ firstRefusal (restRefusals f (stationsIn f .end))
+          at-end = ap (λ (r : Stations). firstRefusal (restRefusals f (r .end))) re
+
+          pub read-rest : (n : ℕ) → n ≡ firstRefusal (restRefusals f (r .end)) → (n ≡ 0 → ⊥) → (v : Reading) → v ≡ refusedReading n → (v ≡ readOf f) × (verdict v f ≡ meaning f)
+          read-rest n e z = answered n (refused-rest refusedReading (acceptedReading f (stationsIn f)) f a b none n (e ∙ at-end) z)
+
+          pub read-accepted : 0 ≡ firstRefusal (restRefusals f (r .end)) → (v : Reading) → v ≡ acceptedReading f r → (v ≡ readOf f) × (verdict v f ≡ meaning f)
           unfolding readOf
-          read-rest v e z =
+          read-accepted d v e =
               read-both f v
-              (e ∙ sym (refused-rest refusedReading (acceptedReading f (stationsIn f)) f (sym az ∙ ae) (sym bz ∙ be) (sym cz ∙ c-is) d d-is z))
-
-          pub read-accepted : (v : Reading) → v ≡ acceptedReading f r → d ≡ 0 → (v ≡ readOf f) × (verdict v f ≡ meaning f)
-          unfolding readOf
-          read-accepted v e z =
-              read-both f v
-              (e ∙ ap (acceptedReading f) re
-              ∙ sym (not-refused refusedReading (acceptedReading f (stationsIn f)) f (sym az ∙ ae) (sym bz ∙ be) (sym cz ∙ c-is) (sym z ∙ d-is)))
+              (e ∙ ap (acceptedReading f) re ∙ sym (not-refused refusedReading (acceptedReading f (stationsIn f)) f a b none (d ∙ at-end)))

@@ -115,12 +115,9 @@ module _ (f : List ℕ) (r : Stations) where
       pub station-lacks : l ≡ true → badNext ≡ station
       station-lacks h = to-lacks badNext (first-stop _ badNext _ (sym le ∙ h))
 
-      module _ (c : l ≡ false) where
-        pub station-sum : (octet f 0 ≡ r .next .sum → ⊥) → badNextSum ≡ station
-        station-sum h = to-lacks badNextSum (first-skip _ badNext _ badNextSum (sym le ∙ c) (first-stop _ badNextSum _ (ap not (ne-eqb (octet f 0) (r .next .sum) h))))
-
-        pub station-done : octet f 0 ≡ r .next .sum → 0 ≡ station
-        station-done h = to-lacks 0 (first-skip _ badNext _ 0 (sym le ∙ c) (first-skip _ badNextSum _ 0 (ap not (eq-eqb (octet f 0) (r .next .sum) h)) refl))
+      -- octet 0 is judged last
+      pub station-last : l ≡ false → (v : ℕ) → v ≡ cond (not (eqb (octet f 0) (r .next .sum))) badNextSum 0 → v ≡ station
+      station-last c v p = to-lacks v (first-skip _ badNext _ v (sym le ∙ c) p)
 
 -- ---- supplementary header, header sum, data
 -- the part between the station fields, of k octets, and the header sum
@@ -149,13 +146,14 @@ module _ (f : List ℕ) (k o : ℕ) (oe : o ≡ offset f) (g : Bool) (ge : g ≡
     unfolding restRefusals
     rest-sum h = first-skip _ badSupplementary _ badHeaderSum (ap not (valid-is ∙ a)) (first-stop _ badHeaderSum _ (ap not (right-is ∙ h)))
 
-    module _ (b : s ≡ true) where
-      to-data : (v : ℕ) → v ≡ cond (ltb longestData (dataLength f)) badData 0 → v ≡ rest
-      unfolding restRefusals
-      to-data v p = first-skip _ badSupplementary _ v (ap not (valid-is ∙ a)) (first-skip _ badHeaderSum _ v (ap not (right-is ∙ b)) p)
+    -- the data are judged last
+    pub rest-last : s ≡ true → (v : ℕ) → v ≡ cond (ltb longestData (dataLength f)) badData 0 → v ≡ rest
+    unfolding restRefusals
+    rest-last b v p = first-skip _ badSupplementary _ v (ap not (valid-is ∙ a)) (first-skip _ badHeaderSum _ v (ap not (right-is ∙ b)) p)
 
-      pub rest-data : longestData < length f - 2 - o → badData ≡ rest
-      rest-data h = to-data badData (first-stop _ badData _ (lt-ltb longestData (dataLength f) (omega arith)))
+module _ (f : List ℕ) (o : ℕ) (oe : o ≡ offset f) where
+  pub data-long : longestData < length f - 2 - o → badData ≡ cond (ltb longestData (dataLength f)) badData 0
+  data-long h = first-stop _ badData _ (lt-ltb longestData (dataLength f) (omega arith))
 
-      pub rest-done : length f - 2 - o ≤ longestData → 0 ≡ rest
-      rest-done h = to-data 0 (first-skip _ badData _ 0 (le-ltb longestData (dataLength f) (omega arith)) refl)
+  pub data-fits : length f - 2 - o ≤ longestData → 0 ≡ cond (ltb longestData (dataLength f)) badData 0
+  data-fits h = first-skip _ badData _ 0 (le-ltb longestData (dataLength f) (omega arith)) refl

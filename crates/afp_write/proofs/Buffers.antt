@@ -1,11 +1,10 @@
 -- What each function of the writer leaves in the buffer, by what the functions that it calls left there. Assumes nothing.
 use mathlib.Core.Path.{_≡_, sym, ap, ap₂, _∙_}
 use mathlib.Core.List.{List, [], _∷_, _++_, append-assoc}
-use Prim.Native.Nat.{ℕ, suc, _+_, _-_, _/_, _%_, _≤_, _<_}
-use native.Mathlib.Numerals.{add-one}
+use Prim.Native.Nat.{ℕ, _+_, _-_, _/_, _%_, _≤_, _<_}
 use native.Mathlib.Omega.{arith}
-use lib.ListN.{length, getD, take, drop, set, length-append, drop-of-length-le}
-use lib.Seq.{sets, drop-cons}
+use lib.ListN.{length, take, drop, length-append}
+use lib.Seq.{sets}
 use Rattle.fcs.specs.Fcs.{checkSequence, checkOctets}
 use Rattle.stations.specs.declared.Next.{Next}
 use Rattle.sums.specs.Sum.{headerSum}
@@ -23,18 +22,6 @@ length-before p x s h = rw (length-append s h) (omega arith)
 pub length-header : (p : ℕ) (x : Next) (s h : List ℕ) → length (headerOf p x s h) ≡ headerLength (length s) (length h)
 unfolding headerOf
 length-header p x s h = rw (length-append (headerBefore p x s h) (headerSum (headerBefore p x s h) ∷ []), length-before p x s h) (omega arith)
-
--- the loop of put: what is left to store gives the whole
-module _ (x out all : List ℕ) (at i : ℕ) (inv : sets out (at + i) (drop i x) ≡ all) where
-  pub put-turn : i < length x → sets (set out (at + i) (getD x i 0)) (at + (i + 1)) (drop (i + 1) x) ≡ all
-  put-turn h =
-      let z : at + (i + 1) ≡ suc (at + i) = omega arith in
-      ap (λ (k : ℕ). sets (set out (at + i) (getD x i 0)) k (drop (i + 1) x)) z
-      ∙ ap (λ (k : ℕ). sets (set out (at + i) (getD x i 0)) (suc (at + i)) (drop k x)) (add-one i)
-      ∙ sym (ap (sets out (at + i)) (drop-cons x i 0 h)) ∙ inv
-
-  pub put-done : length x ≤ i → out ≡ all
-  put-done h = sym (ap (sets out (at + i)) (drop-of-length-le x h)) ∙ inv
 
 -- the check octets
 pub check-put : (out zs all : List ℕ) (k c : ℕ) → c ≡ checkSequence (take k out) → zs ≡ c % 256 ∷ c / 256 ∷ [] → all ≡ sets out k zs

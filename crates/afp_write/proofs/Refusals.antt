@@ -54,15 +54,11 @@ module _ (p : ℕ) (s : List ℕ) (r : Stations) (n : ℕ) (h : List ℕ) where
           pub part-lacks : l ≡ true → badNext ≡ part
           part-lacks i = to-next badNext (first-skip _ badNext _ badNext (ap not (eq-eqb (r .next .number) n d)) (first-stop _ badNext _ (sym le ∙ i)))
 
-          module _ (e : l ≡ false) (g : Bool) (ge : g ≡ validSupplementary h) where
-            to-supplementary : (v : ℕ) → v ≡ cond (not (validSupplementary h)) badSupplementary 0 → v ≡ part
-            to-supplementary v q = to-next v (first-skip _ badNext _ v (ap not (eq-eqb (r .next .number) n d)) (first-skip _ badNext _ v (sym le ∙ e) q))
-
-            pub part-supplementary : g ≡ false → badSupplementary ≡ part
-            part-supplementary i = to-supplementary badSupplementary (first-stop _ badSupplementary _ (ap not (sym ge ∙ i)))
-
-            pub part-done : g ≡ true → 0 ≡ part
-            part-done i = to-supplementary 0 (first-skip _ badSupplementary _ 0 (ap not (sym ge ∙ i)) refl)
+          -- the supplementary header is judged last
+          pub part-last : l ≡ false → (g : Bool) → g ≡ validSupplementary h → (v : ℕ) → v ≡ cond (not g) badSupplementary 0 → v ≡ part
+          part-last e g ge v q =
+              to-next v
+              (first-skip _ badNext _ v (ap not (eq-eqb (r .next .number) n d)) (first-skip _ badNext _ v (sym le ∙ e) (q ∙ ap (λ (g : Bool). cond (not g) badSupplementary 0) ge)))
 
 -- ---- header, data, buffer
 module _ (s h d room : ℕ) where

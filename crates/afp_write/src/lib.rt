@@ -29,13 +29,7 @@ fn put(x: &[u8], out: &mut [u8], at: usize) -> usize
     requires { ⌜ at + length (now x) ≤ length (now out) ⌝ }
     ensures { λ r. ⌜ (r ≡ at + length (now (x .entry))) × (now (out .exit) ≡ sets (now (out .entry)) at (now (x .entry))) ⌝ }
 {
-    let mut i: usize = 0;
-    while i < x.len() {
-        let k = at + i;
-        out[k] = x[i];
-        i += 1;
-    }
-    at + i
+    octets::put(x, out, at)
 }
 
 // Octet 4 for a next station.

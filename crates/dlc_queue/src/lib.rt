@@ -138,15 +138,11 @@ fn payload_of(p: &[u8]) -> Payload
     requires { ⌜ length (now p) ≤ maxPayload ⌝ }
     ensures { λ r. ⌜ (r .len ≡ length (now (p .entry))) × (octetsOf r ≡ now (p .entry)) ⌝ }
 {
-    let mut octets = [0u8; MAX_PAYLOAD];
-    let mut i = 0;
-    while i < p.len() {
-        octets[i] = p[i];
-        i += 1;
-    }
+    let mut slot = [0u8; MAX_PAYLOAD];
+    octets::put(p, &mut slot, 0);
     Payload {
-        len: i,
-        octets: octets,
+        len: p.len(),
+        octets: slot,
     }
 }
 
@@ -173,13 +169,8 @@ fn copy_octets(p: Payload, out: &mut [u8], at: usize)
     ensures { λ _. ⌜ now (out .exit) ≡ sets (now (out .entry)) at (octetsOf p) ⌝ }
 {
     let len = p.len;
-    let mut j = 0;
-    let mut o = at;
-    while j < len {
-        out[o] = p.octets[j];
-        o += 1;
-        j += 1;
-    }
+    let slot = p.octets;
+    octets::put(&slot[..len], out, at);
 }
 
 // Writes DATA x with the octets of p at index at, and returns the packet's length.

@@ -203,10 +203,5 @@ fn put(octets: &[u8], out: &mut [u8], at: usize) -> usize
     ensures { λ r. ⌜ r ≡ at + length (now (octets .entry)) ⌝ }
     ensures { λ _. ⌜ now (out .exit) ≡ sets (now (out .entry)) at (now (octets .entry)) ⌝ }
 {
-    let mut i = 0;
-    while i < octets.len() {
-        out[at + i] = octets[i];
-        i += 1;
-    }
-    at + i
+    octets::put(octets, out, at)
 }

@@ -41,11 +41,9 @@ module _ (s : List ℕ) (p : ℕ) where
         unfolding fieldAt
         opened = simp (lt-leb (length s) p h, ← d, ne-eqb n 0 z, le-ltb (length s - (p + 1)) n o, ← is-good)
 
-        pub field-id : r ≡ true → Id (p + 1 + n) ≡ fieldAt s p
-        field-id t = sym (opened ∙ rw t)
-
-        pub field-odd : r ≡ false → Malformed ≡ fieldAt s p
-        field-odd t = sym (opened ∙ rw t)
+        -- the ID decides
+        pub field-last : (r ≡ true → Id (p + 1 + n) ≡ fieldAt s p) × (r ≡ false → Malformed ≡ fieldAt s p)
+        field-last = (λ t. sym (opened ∙ rw t), λ t. sym (opened ∙ rw t))
 
 -- ---- octets of an ID passed at once
 pub stations-from-skip : (w n p m : ℕ) (x : Next) (k : ℕ) (s : List ℕ) → k ≤ length s → stationsFrom w n p m x k s ≡ stationsFrom w n (p + k) m x 0 (drop k s)

@@ -53,13 +53,12 @@ module _ (s : List ℕ) (i z : ℕ) (all : Bool) (inv : validOptions z 0 (drop i
         went : validOptions y l (drop (i + 1 + 1) s) ≡ all
         went = rw le (sym (ap (λ (b : Bool). b && validOptions y (getD s (i + 1) 0) (drop (i + 1 + 1) s)) (le-leb y 2 few)) ∙ opened)
 
-        pub options-over : length s - (i + 1 + 1) < l → false ≡ all
-        options-over o = sym (options-short y l (drop (i + 1 + 1) s) (rw (length-drop (i + 1 + 1) s) o)) ∙ went
-
-        pub options-on : l ≤ length s - (i + 1 + 1) → validOptions y 0 (drop (i + 1 + 1 + l) s) ≡ all
-        options-on o =
-            ap (validOptions y 0) (sym (drop-drop l (i + 1 + 1) s))
-            ∙ sym (options-skip y l (drop (i + 1 + 1) s) (rw (length-drop (i + 1 + 1) s) o)) ∙ went
+        -- the value decides: there are too few octets for it, or it is passed
+        pub options-value : (length s - (i + 1 + 1) < l → false ≡ all) × (l ≤ length s - (i + 1 + 1) → validOptions y 0 (drop (i + 1 + 1 + l) s) ≡ all)
+        options-value = (
+          λ o. sym (options-short y l (drop (i + 1 + 1) s) (rw (length-drop (i + 1 + 1) s) o)) ∙ went,
+          λ o. ap (validOptions y 0) (sym (drop-drop l (i + 1 + 1) s)) ∙ sym (options-skip y l (drop (i + 1 + 1) s) (rw (length-drop (i + 1 + 1) s) o)) ∙ went,
+        )
 
 -- a supplementary header
 pub none-good : (s : List ℕ) → length s ≡ 0 → true ≡ validSupplementary s

@@ -1,7 +1,14 @@
 -- `afp::rest_refusal` meets its contract. Assumes nothing.
-use mathlib.Core.Path.{sym}
+use mathlib.Core.Path.{_≡_, sym}
+use mathlib.Core.Bool.{cond}
+use Prim.Native.Nat.{ℕ}
+use lib.Dec.{ltb}
 use lib.Seq.{length-take-le}
-use Rattle.afp.proofs.Refusals.{rest-supplementary, rest-sum, rest-data, rest-done}
+use Rattle.common.specs.FirstRefusal.{firstRefusal}
+use Rattle.afp.specs.Numbers.{longestData, badData}
+use Rattle.afp.specs.Layout.{dataLength}
+use Rattle.afp.specs.Reading.{restRefusals}
+use Rattle.afp.proofs.Refusals.{rest-supplementary, rest-sum, rest-last, data-long, data-fits}
 use native.Mathlib.Omega.{arith}
 use borrow.Author.Needs.{needs}
 use Rattle.afp.proofs.rest_refusal.Statement.{statement}
@@ -46,27 +53,28 @@ sub-n c = search needs
 sub-n-2 : tie.Need-sub-n-2
 sub-n-2 c = search needs
 
+-- once the header sum is right, the data decide
+abbrev given : tie.Then2 → tie.Start
+given c = c .before .before .before .before .before .before .before .before .before .before
+
+last : (c : tie.Then2) (v : ℕ) → v ≡ cond (ltb longestData (dataLength (given c .args .f .now))) badData 0
+    → v ≡ firstRefusal (restRefusals (given c .args .f .now) (given c .args .end))
+last c =
+    let args = given c .args in
+    let size = c .before .before .before .before .before .before .before .size in
+    let valid-supplementary = c .before .before .before .before .before .valid-supplementary in
+    rest-last (args .f .now) (args .end) (size .result) (size .ensures) (valid-supplementary .result) (valid-supplementary .ensures)
+    (c .before .before .before .before .if1 .taken) (c .before .right-header-sum .result) (cc) (c .if2 .taken)
+
 returns : tie.Need-returns
 returns c =
-    let args = c .before .before .before .before .before .before .before .before .before .before .before .args in
     let size = c .before .before .before .before .before .before .before .before .size in
-    let valid-supplementary = c .before .before .before .before .before .before .valid-supplementary in
-    let if1 = c .before .before .before .before .before .if1 in
-    let right-header-sum = c .before .before .right-header-sum in
-    let if2 = c .before .if2 in
-    rest-data (args .f .now) (args .end) (size .result) (size .ensures) (valid-supplementary .result) (valid-supplementary .ensures) (if1 .taken)
-    (right-header-sum .result) (cc) (if2 .taken) (omega arith)
+    last (c .before) badData (data-long (given (c .before) .args .f .now) (size .result) (size .ensures) (omega arith))
 
 returns-2 : tie.Need-returns-2
 returns-2 c =
-    let args = c .before .before .before .before .before .before .before .before .before .before .before .args in
     let size = c .before .before .before .before .before .before .before .before .size in
-    let valid-supplementary = c .before .before .before .before .before .before .valid-supplementary in
-    let if1 = c .before .before .before .before .before .if1 in
-    let right-header-sum = c .before .before .right-header-sum in
-    let if2 = c .before .if2 in
-    rest-done (args .f .now) (args .end) (size .result) (size .ensures) (valid-supplementary .result) (valid-supplementary .ensures) (if1 .taken)
-    (right-header-sum .result) (cc) (if2 .taken) (omega arith)
+    last (c .before) 0 (data-fits (given (c .before) .args .f .now) (size .result) (size .ensures) (omega arith))
 
 returns-3 : tie.Need-returns-3
 returns-3 c =

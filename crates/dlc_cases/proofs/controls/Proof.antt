@@ -1,14 +1,14 @@
--- `controls`: a loop of sixteen turns. Assumes nothing.
+-- `controls`: a loop of 256 turns. Assumes nothing.
 use Prim.Native.Nat.{_-_}
 use borrow.Author.Needs.{needs}
 use Rattle.dlc_cases.proofs.controls.Statement.{statement}
 use Rattle.dlc_cases.proofs.controls.Tie as tie
 
 abbrev Inv-loop : tie.InvT-loop
-Inv-loop k len high₀ high = Unit {0}
+Inv-loop k len c₀ c = Unit {0}
 
 abbrev μ-loop : tie.MeasureT-loop
-μ-loop k len high₀ high = 16 - high
+μ-loop k len c₀ c = 256 - c
 
 slice-aggregate-text : tie.Need-slice-aggregate-text Inv-loop μ-loop
 slice-aggregate-text c = search needs
@@ -37,11 +37,11 @@ text-requires-3 c κs = tt
 loop-holds : tie.Need-loop-holds Inv-loop μ-loop
 loop-holds c = tt
 
-nibble-requires : tie.Need-nibble-requires Inv-loop μ-loop
-nibble-requires c κs = tt
+control-requires : tie.Need-control-requires Inv-loop μ-loop
+control-requires c κs = tt
 
-add-high : tie.Need-add-high Inv-loop μ-loop
-add-high c = search needs
+add-c : tie.Need-add-c Inv-loop μ-loop
+add-c c = search needs
 
 loop-less : tie.Need-loop-less Inv-loop μ-loop
 loop-less c = search needs
@@ -67,8 +67,8 @@ controls-spec =
     slice-aggregate-text-3
     text-requires-3
     loop-holds
-    nibble-requires
-    add-high
+    control-requires
+    add-c
     loop-less
     loop-again
     returns)

@@ -35,7 +35,7 @@ returns : tie.Need-returns Inv-loop μ-loop
 returns c =
     let s = c .before .before .before .before in
     let l = c .before .before .before .loop in
-    sym (l .inv .1 ∙ short-stops (s .args .t1) (s .args .n) (l .i) (room s) (c .before .before .loop-test .taken) (c .if1 .taken))
+    sym (l .inv .1 ∙ short-stops (s .args .t1) (s .args .n) (l .i) (room s) (c .before .before .loop-test .taken) (omega (arith, c .if1 .taken)))
 
 add-i : tie.Need-add-i Inv-loop μ-loop
 add-i c = omega arith

@@ -1,74 +1,21 @@
--- `listing::put` meets its contract. The loop's invariant: what is left, put down from here, gives the whole. Assumes nothing.
-use Prim.Native.Nat.{ℕ, _+_, _-_, _≤_}
-use mathlib.Core.Path.{_≡_, refl, sym, ap, _∙_}
-use native.Mathlib.Nat.{add-zero}
-use native.Mathlib.Omega.{arith}
+-- `put`: the octets fit. Assumes nothing.
+use mathlib.Core.Path.{_∙_}
 use borrow.Author.Needs.{needs}
-use lib.ListN.{length, drop, set, getD, length-set}
-use lib.Seq.{sets}
-use Rattle.common.proofs.Buffer.{sets-next, sets-end}
+use Rattle.octets.proofs.Putting.{end-fits, into-fits}
 use Rattle.listing.proofs.put.Statement.{statement}
 use Rattle.listing.proofs.put.Tie as tie
 
-abbrev Inv-loop : tie.InvT-loop
-Inv-loop octets out₀ at i₀ out i =
-    (i ≤ length octets)
-    × (length out ≡ length out₀)
-    × (sets out (at + i) (drop i octets) ≡ sets out₀ at octets)
+put-requires : tie.Need-put-requires
+put-requires c κs = tt
 
-abbrev μ-loop : tie.MeasureT-loop
-μ-loop octets out₀ at i₀ out i = length octets - i
+same-length : tie.Need-same-length
+same-length c = search needs
 
-loop-holds : tie.Need-loop-holds Inv-loop μ-loop
-loop-holds c = (omega arith, refl, rw (add-zero (c .args .at)))
-
-shared-slice-read-out : tie.Need-shared-slice-read-out Inv-loop μ-loop
-shared-slice-read-out c = search needs
-
-add-out : tie.Need-add-out Inv-loop μ-loop
-add-out c = search needs
-
-slice-write-out : tie.Need-slice-write-out Inv-loop μ-loop
-slice-write-out c = omega (arith, c .before .before .loop .inv .1, c .before .before .before .pre)
-
-add-i : tie.Need-add-i Inv-loop μ-loop
-add-i c = search needs
-
-loop-less : tie.Need-loop-less Inv-loop μ-loop
-loop-less c = search needs
-
-loop-again : tie.Need-loop-again Inv-loop μ-loop
-loop-again c =
-    let s = c .before .before .before .args in
-    let l = c .before .before .loop in
-    let z : s .at + (l .i + 1) ≡ s .at + l .i + 1 = omega arith in
-    (omega arith, simp length-set (l .inv .1), ap (λ (k : ℕ). sets (set (l .out) (s .at + l .i) (getD (s .octets .now) (l .i) 0)) k (drop (l .i + 1) (s .octets .now))) z ∙ sym (sets-next (s .octets .now) (l .out) (l .i) (s .at + l .i) (c .before .loop-test .taken)) ∙ l .inv .2)
-
-add-result : tie.Need-add-result Inv-loop μ-loop
-add-result c = omega (arith, c .before .before .pre)
-
-same-length : tie.Need-same-length Inv-loop μ-loop
-same-length c = c .before .loop .inv .1
-
-returns : tie.Need-returns Inv-loop μ-loop
+returns : tie.Need-returns
 returns c =
-    let s = c .before .before .args in
-    let l = c .before .loop in
-    (omega arith, sym (sets-end (s .octets .now) (l .out) (l .i) (s .at + l .i) (c .loop-test .left)) ∙ l .inv .2)
+    let e = c .before .before .put .ensures in
+    let room = c .before .before .before .before .before .before .pre in
+    (e .0 ∙ end-fits _ _ _ room, e .1 ∙ into-fits _ _ _ room)
 
 pub put-spec : {M : Type 1} → statement M
-put-spec =
-    tie.close
-    (tie.spec
-    Inv-loop
-    μ-loop
-    loop-holds
-    shared-slice-read-out
-    add-out
-    slice-write-out
-    add-i
-    loop-less
-    loop-again
-    add-result
-    same-length
-    returns)
+put-spec = tie.close (tie.spec put-requires same-length returns)

@@ -1,4 +1,6 @@
 -- `stations::lacks_next` meets its contract. Assumes nothing.
+use mathlib.Core.Path.{_≡_}
+use native.Mathlib.Omega.{arith}
 use borrow.Author.Tests.{eq-eqb, ne-eqb}
 use Rattle.stations.specs.Fields.{lacksNext}
 use Rattle.stations.proofs.lacks_next.Statement.{statement}
@@ -6,7 +8,9 @@ use Rattle.stations.proofs.lacks_next.Tie as tie
 
 returns : tie.Need-returns
 unfolding lacksNext
-returns c = simp (eq-eqb _ _ (c .if1 .taken))
+returns c =
+    let one : c .before .args .r .count ≡ 1 = omega (arith, c .if1 .taken) in
+    simp (eq-eqb _ _ one)
 
 returns-2 : tie.Need-returns-2
 unfolding lacksNext

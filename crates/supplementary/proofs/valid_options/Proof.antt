@@ -1,9 +1,11 @@
 -- `supplementary::valid_options` meets its contract: the invariant says that what is left gives the whole. Assumes nothing.
 use mathlib.Core.Path.{_≡_}
-use Prim.Native.Nat.{_≤_, _-_}
+use mathlib.Core.Bool.{false}
+use mathlib.Core.List.{List}
+use Prim.Native.Nat.{ℕ, _+_, _-_, _≤_, _<_}
 use lib.ListN.{length, drop}
 use Rattle.supplementary.specs.Options.{mostCallsigns, validOptions}
-use Rattle.supplementary.proofs.Options.{options-done, options-alone, options-third, options-over, options-on}
+use Rattle.supplementary.proofs.Options.{options-done, options-alone, options-third, options-value}
 use native.Mathlib.Omega.{arith}
 use borrow.Author.Needs.{needs}
 use Rattle.supplementary.proofs.valid_options.Statement.{statement}
@@ -55,17 +57,24 @@ add-a c = search needs
 sub-left : tie.Need-sub-left Inv-loop μ-loop
 sub-left c = search needs
 
+-- the loop in a turn that has read an option's length, and its list; the option's value decides
+abbrev turn : tie.After-size Inv-loop μ-loop → tie.At-loop Inv-loop μ-loop
+turn c = c .before .before .before .before .before .before .before
+
+abbrev octets : tie.After-size Inv-loop μ-loop → List ℕ
+octets c = turn c .before .before .args .s .now
+
+value : (c : tie.After-size Inv-loop μ-loop)
+    → (length (octets c) - (turn c .loop .i + 1 + 1) < c .size .result → false ≡ validOptions 0 0 (octets c))
+    × (c .size .result ≤ length (octets c) - (turn c .loop .i + 1 + 1) → validOptions (c .before .before .before .count-callsign .result) 0 (drop (turn c .loop .i + 1 + 1 + c .size .result) (octets c)) ≡ validOptions 0 0 (octets c))
+value c =
+    let l = turn c .loop in
+    let y = c .before .before .before .count-callsign in
+    options-value (octets c) (l .i) (l .z) (validOptions 0 0 (octets c)) (l .inv .2) (c .before .before .before .before .before .before .loop-test .taken)
+    (c .before .before .before .before .before .if1 .left) (y .result) (y .ensures) (omega arith) (c .size .result) (c .size .ensures)
+
 returns-3 : tie.Need-returns-3 Inv-loop μ-loop
-returns-3 c =
-    let loop-test = c .before .before .before .before .before .before .before .loop-test in
-    let if1 = c .before .before .before .before .before .before .if1 in
-    let count-callsign = c .before .before .before .before .count-callsign in
-    let if2 = c .before .before .before .if2 in
-    let size = c .before .size in
-    let l = c .before .before .before .before .before .before .before .before in
-    let s = l .before .before .args .s .now in
-    options-over s (l .loop .i) (l .loop .z) (validOptions 0 0 s) (l .loop .inv .2) (loop-test .taken) (if1 .left) (count-callsign .result)
-    (count-callsign .ensures) (omega arith) (size .result) (size .ensures) (omega arith)
+returns-3 c = value (c .before) .0 (omega arith)
 
 add-i : tie.Need-add-i Inv-loop μ-loop
 add-i c = search needs
@@ -74,19 +83,7 @@ loop-less : tie.Need-loop-less Inv-loop μ-loop
 loop-less c = search needs
 
 loop-again : tie.Need-loop-again Inv-loop μ-loop
-loop-again c =
-    let loop-test = c .before .before .before .before .before .before .before .loop-test in
-    let if1 = c .before .before .before .before .before .before .if1 in
-    let count-callsign = c .before .before .before .before .count-callsign in
-    let if2 = c .before .before .before .if2 in
-    let size = c .before .size in
-    let l = c .before .before .before .before .before .before .before .before in
-    let s = l .before .before .args .s .now in (
-      omega arith,
-      omega arith,
-      options-on s (l .loop .i) (l .loop .z) (validOptions 0 0 s) (l .loop .inv .2) (loop-test .taken) (if1 .left) (count-callsign .result)
-          (count-callsign .ensures) (omega arith) (size .result) (size .ensures) (omega arith),
-    )
+loop-again c = (omega arith, omega arith, value (c .before) .1 (omega arith))
 
 returns-4 : tie.Need-returns-4 Inv-loop μ-loop
 returns-4 c =

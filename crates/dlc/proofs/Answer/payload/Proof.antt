@@ -1,6 +1,7 @@
 -- `Answer::payload`: a packet without its control octet. Assumes nothing.
 use Prim.Native.Nat.{ℕ, _-_, _≤_}
-use mathlib.Core.Path.{sym}
+use mathlib.Core.Path.{_≡_, sym}
+use mathlib.Core.Bool.{true}
 use mathlib.Core.List.{List}
 use lib.ListN.{length, drop, length-drop, drop-of-length-le}
 use lib.Seq.{take-all}
@@ -21,8 +22,10 @@ part-result-end c = search needs
 
 returns : tie.Need-returns
 returns c =
-    let l : List ℕ = now (c .before .before .before .args .packet) in
-    rw (c .before .before .if1 .taken) (take-all (length l - 1) (drop 1 l) (rw length-drop (omega arith)))
+    let args = c .before .before .before .args in
+    let l : List ℕ = now (args .packet) in
+    let d : args .self .delivered ≡ true = c .before .before .if1 .taken in
+    rw d (take-all (length l - 1) (drop 1 l) (rw length-drop (omega arith)))
 
 slice-aggregate-result : tie.Need-slice-aggregate-result
 slice-aggregate-result c = search needs

@@ -1,4 +1,5 @@
 -- `form::state_fits`: by the state. Assumes nothing.
+use mathlib.Core.Path.{refl}
 use borrow.Author.Needs.{needs}
 use Rattle.dlc.proofs.form.state_fits.Statement.{statement}
 use Rattle.dlc.proofs.form.state_fits.Tie as tie
@@ -28,10 +29,10 @@ returns-2 : tie.Need-returns-2
 returns-2 c = rw (c .before .enum-told2 .given .1) (c .at-rest2 .ensures)
 
 returns-3 : tie.Need-returns-3
-returns-3 c = rw (c .enum-told3 .given .1)
+returns-3 c = rw (c .enum-told3 .given .1) refl
 
 returns-4 : tie.Need-returns-4
-returns-4 c = rw (c .enum-told4 .given .1)
+returns-4 c = rw (c .enum-told4 .given .1) refl
 
 pub state-fits-spec : {M : Type 1} → statement M
 state-fits-spec =

@@ -11,7 +11,7 @@ returns : tie.Need-returns
 returns c = pushed-full (c .before .before .args .t1) (now (c .before .before .args .p)) (omega (arith, c .if1 .taken))
 
 returns-2 : tie.Need-returns-2
-returns-2 c = pushed-over (c .before .before .before .args .t1) (now (c .before .before .before .args .p)) (omega (arith, c .before .if1 .left)) (c .if2 .taken)
+returns-2 c = pushed-over (c .before .before .before .args .t1) (now (c .before .before .before .args .p)) (omega (arith, c .before .if1 .left)) (omega (arith, c .if2 .taken))
 
 payload-of-requires : tie.Need-payload-of-requires
 payload-of-requires c κs = search needs

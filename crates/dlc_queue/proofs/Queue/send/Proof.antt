@@ -3,6 +3,7 @@ use mathlib.Core.Path.{sym, _∙_}
 use denote.Ref.{now}
 use Rattle.dlc_queue.proofs.Slots.{formed-count, formed-short}
 use Rattle.dlc_queue.proofs.Sending.{unsent-queue, unsent-number, unsent-room, sent-all}
+use native.Mathlib.Omega.{arith}
 use borrow.Author.Needs.{needs}
 use Rattle.dlc_queue.proofs.Queue.send.Statement.{statement}
 use Rattle.dlc_queue.proofs.Queue.send.Tie as tie
@@ -14,7 +15,7 @@ returns : tie.Need-returns
 returns c = unsent-number (c .before .before .before .before .args .self) (c .before .before .before .before .args .base) (now (c .before .before .before .before .args .reply)) (sym (c .before .before .well-formed .ensures) ∙ c .before .if1 .taken) (c .if2 .taken)
 
 returns-2 : tie.Need-returns-2
-returns-2 c = unsent-room (c .before .before .before .before .before .args .self) (c .before .before .before .before .before .args .base) (now (c .before .before .before .before .before .args .reply)) (sym (c .before .before .before .well-formed .ensures) ∙ c .before .before .if1 .taken) (c .before .if2 .left) (c .if3 .taken)
+returns-2 c = unsent-room (c .before .before .before .before .before .args .self) (c .before .before .before .before .before .args .base) (now (c .before .before .before .before .before .args .reply)) (sym (c .before .before .before .well-formed .ensures) ∙ c .before .before .if1 .taken) (c .before .if2 .left) (omega (arith, c .if3 .taken))
 
 send-slots-requires : tie.Need-send-slots-requires
 send-slots-requires c κs =

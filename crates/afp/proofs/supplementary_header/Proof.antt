@@ -1,0 +1,18 @@
+-- `afp::supplementary_header`: one part of the frame. Assumes nothing.
+use mathlib.Core.Path.{_≡_}
+use denote.Ref.{now}
+use Rattle.afp.specs.Meaning.{partOf}
+use Rattle.afp.proofs.supplementary_header.Statement.{statement}
+use Rattle.afp.proofs.supplementary_header.Tie as tie
+
+octets-of-requires : tie.Need-octets-of-requires
+octets-of-requires c κs = tt
+
+returns : tie.Need-returns
+returns c =
+    let args = c .before .before .before .args in
+    let part : now (c .octets-of .result) ≡ partOf (args .r .supplementary) (now (args .f)) = c .octets-of .ensures in
+    part
+
+pub supplementary-header-spec : {M : Type 1} → statement M
+supplementary-header-spec = tie.close (tie.spec octets-of-requires returns)

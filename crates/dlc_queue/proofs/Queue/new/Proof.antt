@@ -1,0 +1,10 @@
+-- `Queue::new`: no slot is used. Assumes nothing.
+use mathlib.Core.Path.{refl}
+use Rattle.dlc_queue.proofs.Queue.new.Statement.{statement}
+use Rattle.dlc_queue.proofs.Queue.new.Tie as tie
+
+returns : tie.Need-returns
+returns c = (refl, refl)
+
+pub new-spec : {M : Type 1} → statement M
+new-spec = tie.close (tie.spec returns)
