@@ -165,16 +165,21 @@ feed-part c xs i k =
     ∙ feed-++ c (take k (drop i xs)) (drop k (drop i xs))
     ∙ ap (feedAll (feedAll c (take k (drop i xs)))) (drop-drop k i xs)
 
--- the whole eights of a list and then the octets that are left
+-- the first k octets of a list and then those that are left
+pub feed-halves : (d : ℕ) (xs : List ℕ) (k c r : ℕ) → c ≡ feedAll d (take k xs) → r ≡ feedAll c (take (length xs - k) (drop k xs)) → r ≡ feedAll d xs
+feed-halves d xs k c r ce re =
+    re
+    ∙ ap₂ feedAll ce (take-all (length xs - k) (drop k xs) (omega (arith, length-drop k xs)))
+    ∙ sym (feed-++ d (take k xs) (drop k xs))
+    ∙ ap (feedAll d) (take-append-drop k xs)
+
 pub feed-parts : (xs : List ℕ) (k c r : ℕ) → c ≡ feedAll preset (take k xs) → r ≡ feedAll c (take (length xs - k) (drop k xs))
     → 0xFFFF - r ≡ checkSequence xs
 unfolding checkSequence
-feed-parts xs k c r ce re =
-    ap (λ (r : ℕ). 0xFFFF - r)
-    (re
-    ∙ ap₂ feedAll ce (take-all (length xs - k) (drop k xs) (omega (arith, length-drop k xs)))
-    ∙ sym (feed-++ preset (take k xs) (drop k xs))
-    ∙ ap (feedAll preset) (take-append-drop k xs))
+feed-parts xs k c r ce re = ap (λ (r : ℕ). 0xFFFF - r) (feed-halves preset xs k c r ce re)
+
+pub whole-twos : (xs : List ℕ) → length (take (length xs - length xs % 2) xs) % 2 ≡ 0
+whole-twos xs = let n = length-take-le (length xs - length xs % 2) xs (omega arith) in omega arith
 
 pub whole-eights : (xs : List ℕ) → length (take (length xs - length xs % 8) xs) % 8 ≡ 0
 whole-eights xs = let n = length-take-le (length xs - length xs % 8) xs (omega arith) in omega arith

@@ -1,16 +1,16 @@
 -- The code's way to divide by the generator, several bits at once, is the register's, bit by bit. Assumes nothing.
 use mathlib.Core.Path.{_≡_, refl, sym, ap, _∙_}
 use mathlib.Core.List.{List, [], _∷_}
-use Prim.Native.Nat.{ℕ, _+_, _-_, _*_, _/_, _%_, _^_, _<_}
+use Prim.Native.Nat.{ℕ, zero, suc, _+_, _-_, _*_, _/_, _%_, _^_, _<_}
 use native.Mathlib.Nat.{mod-lt}
 use native.Mathlib.Omega.{arith}
 use lib.Bits.{bitXor, xor-lt, xor-comm}
 use lib.Dec.{T, eqb, lit<}
-use lib.ListN.{length, getD}
+use lib.ListN.{length, getD, drop}
 use Rattle.fcs.specs.Fcs.{feed, feedAll}
 use Rattle.fcs.specs.Words.{shiftBit, shiftBits, littleEndian}
 use Rattle.fcs.proofs.Linear.{Linear, linear-id, linear-xor, linear-∘, linear-shl, linear-shr, below, linear-equal}
-use Rattle.fcs.proofs.Register.{Octets, shifts-linear, feed-shift, feeds-word}
+use Rattle.fcs.proofs.Register.{Octets, shifts-linear, feed-shift, feeds-word, feed-drop}
 
 -- a shift up in a word of n bits
 abbrev up : ℕ → ℕ → ℕ → ℕ
@@ -54,6 +54,58 @@ octet-is = linear-equal octetShift (shiftBits 8) octet-linear (shifts-linear 8) 
 
 pub octet-fed : (c x : ℕ) → c < 2 ^ 16 → x < 256 → octetShift (bitXor c x) ≡ feed c x
 octet-fed c x hc hx = octet-is (bitXor c x) (xor-lt 16 c x hc (omega arith)) ∙ sym (feed-shift c x hx)
+
+-- ---- two octets, which fill the register
+abbrev pairFirst : ℕ → ℕ
+pairFirst d = bitXor (bitXor d (up 16 4 d)) (up 16 11 d)
+
+abbrev pairQuotient : ℕ → ℕ
+pairQuotient d = bitXor (pairFirst d) (up 16 8 (pairFirst d))
+
+unfoldable pub pairShift : ℕ → ℕ
+pairShift d = bitXor (bitXor (pairQuotient d) (pairQuotient d / 2 ^ 5)) (pairQuotient d / 2 ^ 12)
+
+pair-first-linear : Linear pairFirst
+pair-first-linear =
+    linear-xor (λ x. bitXor x (up 16 4 x)) (up 16 11) (linear-xor (λ x. x) (up 16 4) linear-id (linear-shl 16 4)) (linear-shl 16 11)
+
+pair-quotient-linear : Linear pairQuotient
+pair-quotient-linear = linear-xor pairFirst (λ x. up 16 8 (pairFirst x)) pair-first-linear (linear-∘ (up 16 8) pairFirst (linear-shl 16 8) pair-first-linear)
+
+pair-linear : Linear pairShift
+unfolding pairShift
+pair-linear =
+    linear-xor (λ x. bitXor (pairQuotient x) (pairQuotient x / 2 ^ 5)) (λ x. pairQuotient x / 2 ^ 12)
+    (linear-xor pairQuotient (λ x. pairQuotient x / 2 ^ 5) pair-quotient-linear (linear-∘ (λ x. x / 2 ^ 5) pairQuotient (linear-shr 5) pair-quotient-linear))
+    (linear-∘ (λ x. x / 2 ^ 12) pairQuotient (linear-shr 12) pair-quotient-linear)
+
+pair-tested : T (below 16 (λ i. eqb (pairShift (2 ^ i)) (shiftBits 16 (2 ^ i))))
+unfolding below pairShift shiftBits shiftBit
+pair-tested = tt
+
+pair-is : (d : ℕ) → d < 2 ^ 16 → pairShift d ≡ shiftBits 16 d
+pair-is = linear-equal pairShift (shiftBits 16) pair-linear (shifts-linear 16) 16 pair-tested
+
+two-octets : (x y : ℕ) → x < 256 → y < 256 → Octets (x ∷ y ∷ [])
+two-octets x y hx hy zero = hx
+two-octets x y hx hy (suc zero) = hy
+two-octets x y hx hy (suc (suc i)) = omega arith
+
+pub pair-fed : (c x y w : ℕ) → c < 2 ^ 16 → x < 256 → y < 256 → w ≡ x + y * 256 → pairShift (bitXor c w) ≡ feed (feed c x) y
+unfolding feedAll littleEndian
+pair-fed c x y w hc hx hy e =
+    let l : x + (y + 0 * 256) * 256 ≡ w = omega arith in
+    pair-is (bitXor c w) (xor-lt 16 c w hc (omega arith))
+    ∙ ap (λ (v : ℕ). shiftBits 16 (bitXor c v)) (sym l)
+    ∙ sym (feeds-word c (x ∷ y ∷ []) (two-octets x y hx hy))
+
+-- the loop over pairs: two octets more
+pub feed-two : (c : ℕ) (xs : List ℕ) (i : ℕ) → i + 1 < length xs → feedAll c (drop i xs) ≡ feedAll (feed (feed c (getD xs i 0)) (getD xs (i + 1) 0)) (drop (i + 2) xs)
+feed-two c xs i h =
+    let e : i + 1 + 1 ≡ i + 2 = omega arith in
+    feed-drop c xs i (omega arith)
+    ∙ feed-drop (feed c (getD xs i 0)) xs (i + 1) h
+    ∙ ap (λ (j : ℕ). feedAll (feed (feed c (getD xs i 0)) (getD xs (i + 1) 0)) (drop j xs)) e
 
 -- ---- 64 bits of the register
 -- f, and the word x moved up by each of the ks, added

@@ -1,4 +1,4 @@
-// The frame check sequence of ISO 3309, without a table: eight octets at a time, and the last few one by one.
+// The frame check sequence of ISO 3309, without a table: eight octets at a time, and the last few by twos.
 ghost use mathlib.Core.Path.{_≡_};
 ghost use Prim.Native.Nat.{_+_, _*_, _%_, _<_};
 ghost use lib.ListN.{length};
@@ -24,6 +24,16 @@ pub fn feed_octet(register: u16, x: u8) -> u16
     let t = d << 8;
     let q = t ^ (t << 4);
     (d >> 8) ^ q ^ (q >> 5) ^ (q >> 12)
+}
+
+// The same for two octets, which fill the register. The quotient is d (1 + x^4 + x^11) (1 + x^8), cut off after sixteen bits.
+fn feed_pair(register: u16, low: u8, high: u8) -> u16
+    ensures { λ r. ⌜ r ≡ feed (feed register low) high ⌝ }
+{
+    let d = register ^ (pair(low, high) as u16);
+    let a = d ^ (d << 4) ^ (d << 11);
+    let q = a ^ (a << 8);
+    q ^ (q >> 5) ^ (q >> 12)
 }
 
 // The same for 64 bits at once. With z = x^4 + x^11 + x^16 the quotient is d (1 + z) (1 + z^2) (1 + z^4) (1 + z^8), cut off after 64 bits.
@@ -70,6 +80,20 @@ fn feed_eights(register: u16, octets: &[u8]) -> u16
     c
 }
 
+// The register after a slice of whole pairs.
+fn feed_pairs(register: u16, octets: &[u8]) -> u16
+    requires { ⌜ length (now octets) % 2 ≡ 0 ⌝ }
+    ensures { λ r. ⌜ r ≡ feedAll register (now (octets .entry)) ⌝ }
+{
+    let mut c = register;
+    let mut i: usize = 0;
+    while i < octets.len() {
+        c = feed_pair(c, octets[i], octets[i + 1]);
+        i += 2;
+    }
+    c
+}
+
 // The register after a slice, octet by octet.
 fn feed_octets(register: u16, octets: &[u8]) -> u16
     ensures { λ r. ⌜ r ≡ feedAll register (now (octets .entry)) ⌝ }
@@ -83,6 +107,16 @@ fn feed_octets(register: u16, octets: &[u8]) -> u16
     c
 }
 
+// The register after a slice, by pairs, and by itself where an octet is left.
+fn feed_rest(register: u16, octets: &[u8]) -> u16
+    ensures { λ r. ⌜ r ≡ feedAll register (now (octets .entry)) ⌝ }
+{
+    let n = octets.len();
+    let even = n - n % 2;
+    let c = feed_pairs(register, &octets[..even]);
+    feed_octets(c, &octets[even..])
+}
+
 // The check sequence of a slice. Its low octet goes on the line first.
 pub fn check_sequence(octets: &[u8]) -> u16
     ensures { λ r. ⌜ r ≡ checkSequence (now (octets .entry)) ⌝ }
@@ -90,5 +124,5 @@ pub fn check_sequence(octets: &[u8]) -> u16
     let n = octets.len();
     let whole = n - n % 8;
     let c = feed_eights(PRESET, &octets[..whole]);
-    !feed_octets(c, &octets[whole..])
+    !feed_rest(c, &octets[whole..])
 }

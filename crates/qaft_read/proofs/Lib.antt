@@ -1,2 +1,3 @@
 pub mod Steps
 pub mod Refusals
+pub mod Runs

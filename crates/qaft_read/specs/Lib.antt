@@ -1,5 +1,6 @@
 pub mod State
 pub mod Verdict
 pub mod Step
+pub mod Run
 pub mod Read
 pub mod Answer

@@ -1,5 +1,5 @@
 // QAFT: the chunk reader. The state and its names: specs/State; the verdict on a segment: specs/Verdict; one octet:
-// specs/Step; a call: specs/Read; the numbers of an answer: specs/Answer.
+// specs/Step; a call: specs/Read; the numbers of an answer: specs/Answer. Runs of octets that stand for themselves: run.rt.
 ghost use mathlib.Core.Path.{_≡_};
 ghost use mathlib.Core.Bool.{not};
 ghost use Prim.Native.Nat.{ℕ, _≤_};
@@ -10,6 +10,8 @@ ghost use Rattle.qaft_read.specs.Verdict.{verdict};
 ghost use Rattle.qaft_read.specs.Step.{stored, inSegment, step};
 ghost use Rattle.qaft_read.specs.Read.{scanCall, read};
 ghost use Rattle.qaft_read.specs.Answer.{reportNumber, number, reportLength, dataLength, shown};
+
+mod run;
 
 #[repr(C)]
 pub struct Reader {
@@ -129,23 +131,27 @@ impl Reader {
         let mut r = self;
         let mut i = 0;
         while i < chunk.len() {
-            let x = chunk[i];
-            i += 1;
-            let action = r.step(x);
-            match action {
-                Action::Advance(next) => {
-                    r = next;
-                }
-                Action::Store(next, at, octet) => {
-                    buffer[at] = octet;
-                    r = next;
-                }
-                Action::Emit(report, next) => {
-                    return Answer {
-                        outcome: Outcome::Reported(report),
-                        taken: i,
-                        reader: next,
-                    };
+            let n = run::run_length(r, &chunk[i..]);
+            let end = i + n;
+            r = run::with_run(r, &chunk[i..end], buffer);
+            i = end;
+            if i < chunk.len() {
+                let x = chunk[i];
+                i += 1;
+                let action = r.step(x);
+                match action {
+                    Action::Advance(next) => r = next,
+                    Action::Store(next, at, octet) => {
+                        buffer[at] = octet;
+                        r = next;
+                    }
+                    Action::Emit(report, next) => {
+                        return Answer {
+                            outcome: Outcome::Reported(report),
+                            taken: i,
+                            reader: next,
+                        };
+                    }
                 }
             }
         }

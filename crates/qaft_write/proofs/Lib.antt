@@ -1,3 +1,4 @@
 pub mod Frame
 pub mod Refusals
 pub mod Sending
+pub mod Plain

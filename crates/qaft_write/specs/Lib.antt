@@ -1,2 +1,3 @@
+pub mod Plain
 pub mod Write
 pub mod Sending

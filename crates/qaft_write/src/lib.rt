@@ -1,14 +1,19 @@
 // QAFT: the frame writer. What it answers and writes: specs/Write; a frame on the line: the crate qaft, specs/Frame.
 ghost use mathlib.Core.Path.{_≡_};
+ghost use mathlib.Core.Bool.{false, cond};
 ghost use mathlib.Core.List.{List, [], _∷_};
-ghost use Prim.Native.Nat.{ℕ, _+_, _≤_};
+ghost use Prim.Native.Nat.{ℕ, _+_, _%_, _≤_};
 ghost use lib.Dec.{leb};
 ghost use lib.ListN.{length};
 ghost use lib.Seq.{sets};
 ghost use Rattle.qaft.specs.Limits.{maxData};
-ghost use Rattle.qaft.specs.Escape.{escapeOne, escape};
+ghost use Rattle.qaft.specs.Escape.{isEscaped, escapeOne, escape};
 ghost use Rattle.qaft.specs.Frame.{opening};
+ghost use Rattle.qaft_write.specs.Plain.{plain};
 ghost use Rattle.qaft_write.specs.Write.{writeFrame, frameWith};
+
+// So many octets are looked at together.
+const BLOCK: usize = 8;
 
 // The writer's answer: a number of document 01, and how many octets of the out buffer were written.
 #[repr(C)]
@@ -115,8 +120,84 @@ fn put_opening(at_flag: bool, out: &mut [u8]) -> usize
     1
 }
 
-// A run of octets, escaped, from the index `at` on; the index after them.
+// Octets, escaped, from the index `at` on; the index after them. Whole blocks first, then what is left, one by one.
 fn put_octets(level: u8, octets: &[u8], out: &mut [u8], at: usize) -> usize
+    requires { ⌜ at + length (escape level (now octets)) ≤ length (now out) ⌝ }
+    ensures { λ r. ⌜ r ≡ at + length (escape level (now (octets .entry))) ⌝ }
+    ensures { λ _. ⌜ now (out .exit) ≡ sets (now (out .entry)) at (escape level (now (octets .entry))) ⌝ }
+{
+    let n = octets.len();
+    let whole = n - n % BLOCK;
+    let mid = put_blocks(level, &octets[..whole], out, at);
+    put_each(level, &octets[whole..], out, mid)
+}
+
+// Whole blocks likewise.
+fn put_blocks(level: u8, octets: &[u8], out: &mut [u8], at: usize) -> usize
+    requires { ⌜ length (now octets) % 8 ≡ 0 ⌝ }
+    requires { ⌜ at + length (escape level (now octets)) ≤ length (now out) ⌝ }
+    ensures { λ r. ⌜ r ≡ at + length (escape level (now (octets .entry))) ⌝ }
+    ensures { λ _. ⌜ now (out .exit) ≡ sets (now (out .entry)) at (escape level (now (octets .entry))) ⌝ }
+{
+    let mut to = at;
+    let mut i = 0;
+    while i < octets.len() {
+        let next = i + BLOCK;
+        to = put_block(level, &octets[i..next], out, to);
+        i = next;
+    }
+    to
+}
+
+// One block likewise: most have no octet that is escaped, and go out as they are.
+fn put_block(level: u8, octets: &[u8], out: &mut [u8], at: usize) -> usize
+    requires { ⌜ at + length (escape level (now octets)) ≤ length (now out) ⌝ }
+    ensures { λ r. ⌜ r ≡ at + length (escape level (now (octets .entry))) ⌝ }
+    ensures { λ _. ⌜ now (out .exit) ≡ sets (now (out .entry)) at (escape level (now (octets .entry))) ⌝ }
+{
+    if all_plain(level, octets) {
+        put_plain(octets, out, at);
+        return at + octets.len();
+    }
+    put_each(level, octets, out, at)
+}
+
+// Whether the level escapes none of the octets. All are looked at, so that there is no branch among them.
+fn all_plain(level: u8, octets: &[u8]) -> bool
+    ensures { λ r. ⌜ r ≡ plain level (now (octets .entry)) ⌝ }
+{
+    let mut so_far = true;
+    let mut i = 0;
+    while i < octets.len() {
+        so_far = and_plain(so_far, level, octets[i]);
+        i += 1;
+    }
+    so_far
+}
+
+fn and_plain(so_far: bool, level: u8, x: u8) -> bool
+    ensures { λ r. ⌜ r ≡ cond (isEscaped level x) false «so_far» ⌝ }
+{
+    if qaft::is_escaped(level, x) {
+        return false;
+    }
+    so_far
+}
+
+// Octets as they are, from the index `at` on.
+fn put_plain(octets: &[u8], out: &mut [u8], at: usize)
+    requires { ⌜ at + length (now octets) ≤ length (now out) ⌝ }
+    ensures { λ _. ⌜ now (out .exit) ≡ sets (now (out .entry)) at (now (octets .entry)) ⌝ }
+{
+    let mut i = 0;
+    while i < octets.len() {
+        out[at + i] = octets[i];
+        i += 1;
+    }
+}
+
+// Octets one by one, escaped, from the index `at` on; the index after them.
+fn put_each(level: u8, octets: &[u8], out: &mut [u8], at: usize) -> usize
     requires { ⌜ at + length (escape level (now octets)) ≤ length (now out) ⌝ }
     ensures { λ r. ⌜ r ≡ at + length (escape level (now (octets .entry))) ⌝ }
     ensures { λ _. ⌜ now (out .exit) ≡ sets (now (out .entry)) at (escape level (now (octets .entry))) ⌝ }

@@ -1,2 +1,3 @@
 pub mod Sum
 pub mod Worked
+pub mod Totals

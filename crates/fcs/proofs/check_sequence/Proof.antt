@@ -16,20 +16,20 @@ slice-aggregate-feed-eights c = sym (length-take-le _ _ (omega arith))
 feed-eights-requires : tie.Need-feed-eights-requires
 feed-eights-requires c κs = whole-eights (c .before .before .args .octets .now)
 
-sub-feed-octets : tie.Need-sub-feed-octets
-sub-feed-octets c = search needs
+sub-feed-rest : tie.Need-sub-feed-rest
+sub-feed-rest c = search needs
 
-part-feed-octets-start : tie.Need-part-feed-octets-start
-part-feed-octets-start c = search needs
+part-feed-rest-start : tie.Need-part-feed-rest-start
+part-feed-rest-start c = search needs
 
-part-feed-octets-end : tie.Need-part-feed-octets-end
-part-feed-octets-end c = search needs
+part-feed-rest-end : tie.Need-part-feed-rest-end
+part-feed-rest-end c = search needs
 
-feed-octets-requires : tie.Need-feed-octets-requires
-feed-octets-requires c κs = search needs
+feed-rest-requires : tie.Need-feed-rest-requires
+feed-rest-requires c κs = search needs
 
 returns : tie.Need-returns
-returns c = feed-parts _ _ _ _ (c .before .before .feed-eights .ensures) (c .feed-octets .ensures)
+returns c = feed-parts _ _ _ _ (c .before .before .feed-eights .ensures) (c .feed-rest .ensures)
 
 pub check-sequence-spec : {M : Type 1} → statement M
 check-sequence-spec =
@@ -38,8 +38,8 @@ check-sequence-spec =
     sub-whole
     slice-aggregate-feed-eights
     feed-eights-requires
-    sub-feed-octets
-    part-feed-octets-start
-    part-feed-octets-end
-    feed-octets-requires
+    sub-feed-rest
+    part-feed-rest-start
+    part-feed-rest-end
+    feed-rest-requires
     returns)

@@ -1,81 +1,66 @@
--- `qaft_write::put_octets` meets its contract. The loop's invariant: what is left, put down from here, gives the whole. Assumes nothing.
-use Prim.Native.Nat.{_+_, _-_, _≤_, ℕ}
-use mathlib.Core.List.{List}
-use mathlib.Core.Path.{_≡_, sym, ap, _∙_}
+-- `qaft_write::put_octets` meets its contract. Assumes nothing.
+use Prim.Native.Nat.{_-_, _%_}
+use mathlib.Core.Path.{sym}
 use native.Mathlib.Omega.{arith}
 use borrow.Author.Needs.{needs}
-use lib.ListN.{length, drop, getD, length-append}
-use lib.Seq.{sets}
-use Rattle.common.proofs.Buffer.{sets-++}
-use Rattle.qaft.proofs.Escape.{escape-end, escape-next}
-use Rattle.qaft.specs.Escape.{escapeOne, escape}
+use lib.ListN.{length}
+use lib.Seq.{length-take-le}
+use Rattle.qaft_write.proofs.Plain.{whole-blocks, length-parts, sets-parts}
 use Rattle.qaft_write.proofs.put_octets.Statement.{statement}
 use Rattle.qaft_write.proofs.put_octets.Tie as tie
 
-abbrev Inv-loop : tie.InvT-loop
-Inv-loop level octets out₀ at to₀ i₀ out to i =
-    (i ≤ length octets)
-    × (length out ≡ length out₀)
-    × (to + length (escape level (drop i octets)) ≡ at + length (escape level octets))
-    × (sets out to (escape level (drop i octets)) ≡ sets out₀ at (escape level octets))
+sub-whole : tie.Need-sub-whole
+sub-whole c = search needs
 
-abbrev μ-loop : tie.MeasureT-loop
-μ-loop level octets out₀ at to₀ i₀ out to i = length octets - i
+slice-aggregate-put-blocks : tie.Need-slice-aggregate-put-blocks
+slice-aggregate-put-blocks c = sym (length-take-le _ _ (omega arith))
 
-loop-holds : tie.Need-loop-holds Inv-loop μ-loop
-loop-holds c = search needs
-
-shared-slice-read-put-octet : tie.Need-shared-slice-read-put-octet Inv-loop μ-loop
-shared-slice-read-put-octet c = search needs
-
-put-octet-requires : tie.Need-put-octet-requires Inv-loop μ-loop
-put-octet-requires c κs =
-    let s = c .before .before .before .before .before .before .args in
-    let l = c .before .before .before .loop in
-    let e = escape-next (s .level) (s .octets .now) (l .i) (c .before .before .loop-test .taken) in
-    omega (arith, simp length-append at (ap length e), l .inv .1, l .inv .2, c .before .before .before .before .before .before .pre)
-
-add-i : tie.Need-add-i Inv-loop μ-loop
-add-i c = search needs
-
-loop-less : tie.Need-loop-less Inv-loop μ-loop
-loop-less c = search needs
-
-loop-again : tie.Need-loop-again Inv-loop μ-loop
-loop-again c =
-    let s = c .before .before .before .before .before .before .before .before .before .args in
-    let l = c .before .before .before .before .before .before .loop in
-    let p = c .before .before .put-octet in
-    let x = escapeOne (s .level) (getD (s .octets .now) (l .i) 0) in
-    let rest = escape (s .level) (drop (l .i + 1) (s .octets .now)) in
-    let e = escape-next (s .level) (s .octets .now) (l .i) (c .before .before .before .before .before .loop-test .taken) in (
-      omega arith,
-      p .kept .1 .1 .0 ∙ l .inv .1,
-      omega (arith, simp length-append at (ap length e), l .inv .2, p .ensures .0),
-      rw (p .ensures .1, p .ensures .0) (sym (sets-++ x rest (l .out) (l .to)) ∙ ap (λ (z : List ℕ). sets (l .out) (l .to) z) (sym e) ∙ l .inv .3),
-    )
-
-same-length : tie.Need-same-length Inv-loop μ-loop
-same-length c = c .before .loop .inv .1
-
-returns : tie.Need-returns Inv-loop μ-loop
-returns c =
+put-blocks-requires : tie.Need-put-blocks-requires
+put-blocks-requires c κs =
     let s = c .before .before .before .before .args in
-    let l = c .before .loop in
-    let e = escape-end (s .level) (s .octets .now) (l .i) (c .loop-test .left) in
-    (omega (arith, ap length e, l .inv .2), sym (ap (λ (z : List ℕ). sets (l .out) (l .to) z) e) ∙ l .inv .3)
+    let xs = s .octets .now in
+    let k = length xs - length xs % 8 in
+    (whole-blocks xs, omega (arith, length-parts (s .level) xs k, c .before .before .before .before .pre))
+
+sub-put-each : tie.Need-sub-put-each
+sub-put-each c = search needs
+
+part-put-each-start : tie.Need-part-put-each-start
+part-put-each-start c = search needs
+
+part-put-each-end : tie.Need-part-put-each-end
+part-put-each-end c = search needs
+
+put-each-requires : tie.Need-put-each-requires
+put-each-requires c κs =
+    let s = c .before .before .before .before .before .before .before .before .before .args in
+    let xs = s .octets .now in
+    let k = length xs - length xs % 8 in
+    let p = c .before .before .before .before .put-blocks in
+    omega (arith, length-parts (s .level) xs k, p .ensures .0, p .kept .1 .1 .0, c .before .before .before .before .before .before .before .before .before .pre)
+
+same-length : tie.Need-same-length
+same-length c = search needs
+
+returns : tie.Need-returns
+returns c =
+    let s = c .before .before .before .before .before .before .before .before .before .before .before .before .args in
+    let xs = s .octets .now in
+    let k = length xs - length xs % 8 in
+    let p = c .before .before .before .before .before .before .before .put-blocks in
+    let q = c .before .before .put-each in
+    (omega (arith, length-parts (s .level) xs k, p .ensures .0, q .ensures .0), sets-parts (s .level) xs k (s .out .now) _ _ (s .at) _ (p .ensures .1) (p .ensures .0) (q .ensures .1))
 
 pub put-octets-spec : {M : Type 1} → statement M
 put-octets-spec =
     tie.close
     (tie.spec
-    Inv-loop
-    μ-loop
-    loop-holds
-    shared-slice-read-put-octet
-    put-octet-requires
-    add-i
-    loop-less
-    loop-again
+    sub-whole
+    slice-aggregate-put-blocks
+    put-blocks-requires
+    sub-put-each
+    part-put-each-start
+    part-put-each-end
+    put-each-requires
     same-length
     returns)

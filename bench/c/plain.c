@@ -1,0 +1,152 @@
+#include "plain.h"
+#include <string.h>
+
+enum { FLAG = 0x7E, ESCAPE = 0x7D, MASK = 0x20, LONGEST = 2561 };
+
+static bool escaped(uint8_t level, uint8_t x)
+{
+    return x == FLAG || x == ESCAPE || (level == 1 && (x == 0x11 || x == 0x13));
+}
+
+static uint8_t *put(uint8_t level, uint8_t x, uint8_t *to)
+{
+    if (escaped(level, x)) {
+        *to++ = ESCAPE;
+        x ^= MASK;
+    }
+    *to++ = x;
+    return to;
+}
+
+/* The frame's length, or 0 for every refusal. Room is asked for the longest frame of so much data. */
+size_t plain_qaft_write(uint8_t level, bool at_flag, const uint8_t *octets, size_t length, uint8_t *out, size_t room)
+{
+    uint8_t sum = 0;
+    uint8_t *to = out;
+    if (level > 1 || length == 0 || length >= LONGEST || room < 2 * length + 4)
+        return 0;
+    if (!at_flag)
+        *to++ = FLAG;
+    for (size_t i = 0; i < length; i++) {
+        sum = (uint8_t)(sum + octets[i]);
+        to = put(level, octets[i], to);
+    }
+    to = put(level, (uint8_t)-sum, to);
+    *to++ = FLAG;
+    return (size_t)(to - out);
+}
+
+static uint8_t judge(const struct plain_reader *r)
+{
+    if (r->pending)
+        return 11;
+    if (r->count == 0)
+        return 0;
+    if (r->count > LONGEST)
+        return 12;
+    if (r->count == 1)
+        return 13;
+    return r->sum == 0 ? 10 : 14;
+}
+
+/* The state and the store are trusted. */
+struct plain_answer plain_qaft_read(struct plain_reader r, const uint8_t *chunk, size_t length, uint8_t *store)
+{
+    for (size_t i = 0; i < length; i++) {
+        uint8_t x = chunk[i];
+        if (x == FLAG) {
+            uint8_t number = judge(&r);
+            size_t data = number == 10 ? r.count - 1 : 0;
+            r = (struct plain_reader){.level = r.level, .flag = true};
+            if (number != 0)
+                return (struct plain_answer){number, i + 1, data, r};
+        } else if (r.flag) {
+            if (r.pending) {
+                x ^= MASK;
+                r.pending = false;
+            } else if (x == ESCAPE) {
+                r.pending = true;
+                continue;
+            }
+            if (r.count < LONGEST)
+                store[r.count] = x;
+            if (r.count <= LONGEST)
+                r.count++;
+            r.sum = (uint8_t)(r.sum + x);
+        }
+    }
+    return (struct plain_answer){15, length, 0, r};
+}
+
+/* The link's timer with something queued, by the header's types; the link is trusted. */
+hasfandur_dlc_outcome plain_dlc_timer(hasfandur_dlc_link link, uint8_t *reply, size_t reply_length)
+{
+    hasfandur_dlc_outcome outcome = {.link = link};
+    if (reply_length < HASFANDUR_DLC_REPLY) {
+        outcome.answer.number = HASFANDUR_DLC_REPLY_TOO_SMALL;
+        return outcome;
+    }
+    for (size_t i = 0; i < link.queue.count; i++) {
+        const hasfandur_dlc_queued *slot = &link.queue.slots[i];
+        *reply = (uint8_t)(0x40 | ((link.base + i) & 0x0F));
+        memcpy(reply + 1, slot->octets, slot->length);
+        reply += 1 + slot->length;
+        outcome.answer.lengths[i] = 1 + slot->length;
+    }
+    outcome.answer.sent = link.queue.count;
+    return outcome;
+}
+
+/* the carry added in again after each octet */
+uint8_t plain_sum_by_octets(const uint8_t *octets, size_t length)
+{
+    unsigned sum = 0;
+    for (size_t i = 0; i < length; i++) {
+        sum += octets[i];
+        sum = (sum & 0xFF) + (sum >> 8);
+    }
+    return (uint8_t)sum;
+}
+
+/* the carries added in at the end; good for less than 16 MB */
+uint8_t plain_sum_at_end(const uint8_t *octets, size_t length)
+{
+    uint32_t sum = 0;
+    for (size_t i = 0; i < length; i++)
+        sum += octets[i];
+    while (sum > 0xFF)
+        sum = (sum & 0xFF) + (sum >> 8);
+    return (uint8_t)sum;
+}
+
+static uint16_t table[256];
+
+void plain_make_table(void)
+{
+    for (unsigned k = 0; k < 256; k++) {
+        unsigned c = k;
+        for (int bit = 0; bit < 8; bit++)
+            c = c & 1 ? (c >> 1) ^ 0x8408 : c >> 1;
+        table[k] = (uint16_t)c;
+    }
+}
+
+/* the usual byte table */
+uint16_t plain_check_by_table(const uint8_t *octets, size_t length)
+{
+    uint16_t c = 0xFFFF;
+    for (size_t i = 0; i < length; i++)
+        c = (uint16_t)(table[(c ^ octets[i]) & 0xFF] ^ (c >> 8));
+    return (uint16_t)~c;
+}
+
+uint16_t plain_check_by_bits(const uint8_t *octets, size_t length)
+{
+    unsigned c = 0xFFFF;
+    for (size_t i = 0; i < length; i++) {
+        c ^= octets[i];
+        for (int bit = 0; bit < 8; bit++)
+            c = c & 1 ? (c >> 1) ^ 0x8408 : c >> 1;
+    }
+    return (uint16_t)~c;
+}

@@ -1,0 +1,38 @@
+/* Plain C: what a C programmer would write without more thought, compiled with gcc -O3. Not a packaged library. */
+#ifndef PLAIN_H
+#define PLAIN_H
+
+#include "../../include/hasfandur.h"
+#include <stdbool.h>
+#include <stddef.h>
+#include <stdint.h>
+
+struct plain_reader {
+    uint8_t level;
+    bool flag;
+    bool pending;
+    size_t count;
+    uint8_t sum;
+};
+
+struct plain_answer {
+    uint8_t number;
+    size_t taken;
+    size_t length;
+    struct plain_reader reader;
+};
+
+size_t plain_qaft_write(uint8_t level, bool at_flag, const uint8_t *octets, size_t length, uint8_t *out, size_t room);
+struct plain_answer plain_qaft_read(struct plain_reader reader, const uint8_t *chunk, size_t length, uint8_t *store);
+hasfandur_dlc_outcome plain_dlc_timer(hasfandur_dlc_link link, uint8_t *reply, size_t reply_length);
+hasfandur_reading plain_afp_read(const uint8_t *frame, size_t length);
+hasfandur_written plain_afp_write(uint8_t protocol, const uint8_t *stations, size_t stations_length, size_t next,
+                                  const uint8_t *supplementary, size_t supplementary_length, const uint8_t *octets,
+                                  size_t length, uint8_t *out, size_t room);
+uint8_t plain_sum_by_octets(const uint8_t *octets, size_t length);
+uint8_t plain_sum_at_end(const uint8_t *octets, size_t length);
+void plain_make_table(void);
+uint16_t plain_check_by_table(const uint8_t *octets, size_t length);
+uint16_t plain_check_by_bits(const uint8_t *octets, size_t length);
+
+#endif

@@ -1,0 +1,232 @@
+//! The contenders in C, with safe wrappers: plain C (c/plain.c), and packaged libraries where they are there.
+use crate::archive::link::{Link, Outcome};
+use second::afp::{Part, Reading};
+use second::reader::{Answer, State};
+use second::Written;
+
+#[repr(C)]
+struct RawReader {
+    level: u8,
+    flag: bool,
+    pending: bool,
+    count: usize,
+    sum: u8,
+}
+
+#[repr(C)]
+struct RawAnswer {
+    number: u8,
+    taken: usize,
+    length: usize,
+    reader: RawReader,
+}
+
+#[repr(C)]
+struct RawWritten {
+    number: u8,
+    length: usize,
+}
+
+#[repr(C)]
+struct RawPart {
+    place: usize,
+    size: usize,
+}
+
+#[repr(C)]
+struct RawReading {
+    number: u8,
+    protocol: u8,
+    stations: RawPart,
+    ids: usize,
+    next: usize,
+    supplementary: RawPart,
+    payload: RawPart,
+    unchecked: bool,
+}
+
+extern "C" {
+    fn plain_qaft_write(
+        level: u8,
+        at_flag: bool,
+        octets: *const u8,
+        length: usize,
+        out: *mut u8,
+        room: usize,
+    ) -> usize;
+    fn plain_qaft_read(
+        reader: RawReader,
+        chunk: *const u8,
+        length: usize,
+        store: *mut u8,
+    ) -> RawAnswer;
+    fn plain_sum_by_octets(octets: *const u8, length: usize) -> u8;
+    fn plain_sum_at_end(octets: *const u8, length: usize) -> u8;
+    fn plain_dlc_timer(link: Link, reply: *mut u8, reply_length: usize) -> Outcome;
+    fn plain_afp_read(frame: *const u8, length: usize) -> RawReading;
+    fn plain_afp_write(
+        protocol: u8,
+        stations: *const u8,
+        stations_length: usize,
+        next: usize,
+        supplementary: *const u8,
+        supplementary_length: usize,
+        octets: *const u8,
+        length: usize,
+        out: *mut u8,
+        room: usize,
+    ) -> RawWritten;
+    fn plain_make_table();
+    fn plain_check_by_table(octets: *const u8, length: usize) -> u16;
+    fn plain_check_by_bits(octets: *const u8, length: usize) -> u16;
+}
+
+/// Before any other call.
+pub fn start() {
+    unsafe { plain_make_table() }
+    #[cfg(osmocom)]
+    osmocom::start();
+}
+
+pub fn qaft_write(level: u8, at_flag: bool, data: &[u8], out: &mut [u8]) -> usize {
+    let (place, room) = (out.as_mut_ptr(), out.len());
+    unsafe { plain_qaft_write(level, at_flag, data.as_ptr(), data.len(), place, room) }
+}
+
+/// Reads up to the first report. The state is one that this function gave back.
+pub fn qaft_read(from: State, chunk: &[u8], store: &mut [u8]) -> (State, Answer) {
+    assert!(store.len() >= second::reader::STORE);
+    let reader = RawReader {
+        level: from.level,
+        flag: from.flag,
+        pending: from.pending,
+        count: from.count,
+        sum: from.sum,
+    };
+    let raw = unsafe { plain_qaft_read(reader, chunk.as_ptr(), chunk.len(), store.as_mut_ptr()) };
+    let state = State {
+        level: raw.reader.level,
+        flag: raw.reader.flag,
+        pending: raw.reader.pending,
+        count: raw.reader.count,
+        sum: raw.reader.sum,
+    };
+    let answer = Answer {
+        number: raw.number,
+        taken: raw.taken,
+        length: raw.length,
+    };
+    (state, answer)
+}
+
+pub fn dlc_timer(link: Link, reply: &mut [u8]) -> Outcome {
+    unsafe { plain_dlc_timer(link, reply.as_mut_ptr(), reply.len()) }
+}
+
+fn part(raw: RawPart) -> Part {
+    Part {
+        place: raw.place,
+        size: raw.size,
+    }
+}
+
+pub fn afp_read(frame: &[u8]) -> Reading {
+    let raw = unsafe { plain_afp_read(frame.as_ptr(), frame.len()) };
+    Reading {
+        number: raw.number,
+        protocol: raw.protocol,
+        stations: part(raw.stations),
+        ids: raw.ids,
+        next: raw.next,
+        supplementary: part(raw.supplementary),
+        payload: part(raw.payload),
+        unchecked: raw.unchecked,
+    }
+}
+
+/// The station fields have fewer than 128 IDs.
+pub fn afp_write(
+    protocol: u8,
+    stations: &[u8],
+    next: usize,
+    supplementary: &[u8],
+    data: &[u8],
+    out: &mut [u8],
+) -> Written {
+    assert!(stations.len() < second::afp::MAX_HEADER);
+    let raw = unsafe {
+        plain_afp_write(
+            protocol,
+            stations.as_ptr(),
+            stations.len(),
+            next,
+            supplementary.as_ptr(),
+            supplementary.len(),
+            data.as_ptr(),
+            data.len(),
+            out.as_mut_ptr(),
+            out.len(),
+        )
+    };
+    Written {
+        number: raw.number,
+        length: raw.length,
+    }
+}
+
+pub fn sum_by_octets(octets: &[u8]) -> u8 {
+    unsafe { plain_sum_by_octets(octets.as_ptr(), octets.len()) }
+}
+
+pub fn sum_at_end(octets: &[u8]) -> u8 {
+    unsafe { plain_sum_at_end(octets.as_ptr(), octets.len()) }
+}
+
+pub fn check_by_table(octets: &[u8]) -> u16 {
+    unsafe { plain_check_by_table(octets.as_ptr(), octets.len()) }
+}
+
+pub fn check_by_bits(octets: &[u8]) -> u16 {
+    unsafe { plain_check_by_bits(octets.as_ptr(), octets.len()) }
+}
+
+#[cfg(boost)]
+pub mod boost {
+    extern "C" {
+        fn boost_check_sequence(octets: *const u8, length: usize) -> u16;
+    }
+
+    pub fn check_sequence(octets: &[u8]) -> u16 {
+        unsafe { boost_check_sequence(octets.as_ptr(), octets.len()) }
+    }
+}
+
+#[cfg(osmocom)]
+pub mod osmocom {
+    extern "C" {
+        fn osmocom_start();
+        fn osmocom_check_sequence(octets: *const u8, length: usize) -> u16;
+        fn osmocom_write(octets: *const u8, length: usize, out: *mut u8) -> usize;
+        fn osmocom_read(chunk: *const u8, length: usize) -> usize;
+    }
+
+    pub(super) fn start() {
+        unsafe { osmocom_start() }
+    }
+
+    pub fn check_sequence(octets: &[u8]) -> u16 {
+        unsafe { osmocom_check_sequence(octets.as_ptr(), octets.len()) }
+    }
+
+    /// One frame of sercomm; the octets it takes.
+    pub fn write(data: &[u8], out: &mut [u8]) -> usize {
+        // two flags, two octets of head, and one more pull that gives nothing
+        assert!(out.len() >= 2 * (data.len() + 2) + 3);
+        unsafe { osmocom_write(data.as_ptr(), data.len(), out.as_mut_ptr()) }
+    }
+
+    /// The data octets of the frames in a chunk of sercomm's line.
+    pub fn read(chunk: &[u8]) -> usize {
+        unsafe { osmocom_read(chunk.as_ptr(), chunk.len()) }
+    }
+}

@@ -1,0 +1,45 @@
+-- `qaft_read::run::with_run` meets its contract. Assumes nothing.
+use native.Mathlib.Omega.{arith}
+use borrow.Author.Needs.{needs}
+use Rattle.qaft_read.proofs.Runs.{sum-run, withRun-none, withRun-some, sets-none}
+use Rattle.qaft_read.proofs.run.with_run.Statement.{statement}
+use Rattle.qaft_read.proofs.run.with_run.Tie as tie
+
+returns : tie.Need-returns
+returns c =
+    let s = c .before .before .before .args in
+    (withRun-none (s .reader) (s .octets .now) (c .if1 .taken), sets-none (s .octets .now) (s .buffer .now) _ (c .if1 .taken))
+
+store-requires : tie.Need-store-requires
+store-requires c κs = omega (arith, c .before .before .before .before .pre .0 (omega arith), c .before .before .before .before .pre .1)
+
+check-octet-requires : tie.Need-check-octet-requires
+check-octet-requires c κs = search needs
+
+add-t11 : tie.Need-add-t11
+add-t11 c = omega (arith, c .before .before .before .before .before .before .before .before .pre .0 (omega arith))
+
+wrapping-sub-u8-requires : tie.Need-wrapping-sub-u8-requires
+wrapping-sub-u8-requires c κs = search needs
+
+same-length : tie.Need-same-length
+same-length c = search needs
+
+returns-2 : tie.Need-returns-2
+returns-2 c =
+    let s = c .before .before .before .before .before .before .before .before .before .args in
+    let r = s .reader in
+    let e = sum-run (r .sum) (c .wrapping-sub-u8 .result) _ (s .octets .now) (c .before .check-octet .ensures) (c .wrapping-sub-u8 .ensures) (omega arith) in
+    (withRun-some r (s .octets .now) _ (c .before .before .before .before .before .before .if1 .left) e, c .before .before .before .before .store .ensures)
+
+pub with-run-spec : {M : Type 1} → statement M
+with-run-spec =
+    tie.close
+    (tie.spec
+    returns
+    store-requires
+    check-octet-requires
+    add-t11
+    wrapping-sub-u8-requires
+    same-length
+    returns-2)
