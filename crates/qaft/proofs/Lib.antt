@@ -1,3 +1,4 @@
 pub mod Escape
+pub mod Plain
 pub mod Check
 pub mod Frame

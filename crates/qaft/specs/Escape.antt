@@ -1,6 +1,6 @@
 -- QAFT: octets on the line, and which of them are escaped. Cited by the writer's and the reader's definitions. Assumes nothing.
 use Prim.Native.Nat.{ℕ}
-use mathlib.Core.Bool.{Bool, cond, _&&_, _||_}
+use mathlib.Core.Bool.{Bool, true, false, cond, _&&_, _||_}
 use mathlib.Core.List.{List, [], _∷_, _++_}
 use lib.Bits.{bitXor}
 use lib.Dec.{eqb}
@@ -35,3 +35,8 @@ escapeOne level x = cond (isEscaped level x) (escapeOctet ∷ masked x ∷ []) (
 unfoldable pub escape : (level : ℕ) → List ℕ → List ℕ
 escape level [] = []
 escape level (x ∷ xs) = escapeOne level x ++ escape level xs
+
+-- whether a level escapes no octet of a list, so that they go on the line as they are
+unfoldable pub plain : (level : ℕ) → List ℕ → Bool
+plain level [] = true
+plain level (x ∷ xs) = cond (isEscaped level x) false (plain level xs)

@@ -2,7 +2,8 @@
 // and the check octet. Definitions: specs/Escape, specs/Check; a frame and a line of frames: specs/Frame.
 ghost use mathlib.Core.Path.{_≡_};
 ghost use Prim.Native.Nat.{_-_, _%_};
-ghost use Rattle.qaft.specs.Escape.{isEscaped};
+ghost use mathlib.Core.Bool.{false, cond};
+ghost use Rattle.qaft.specs.Escape.{isEscaped, plain};
 ghost use Rattle.qaft.specs.Check.{checkOctet};
 
 pub const FLAG: u8 = 0x7E;
@@ -70,6 +71,28 @@ pub fn is_escaped(level: u8, x: u8) -> bool
         return x == XOFF;
     }
     false
+}
+
+// Whether the level escapes none of the octets. All are looked at, so that there is no branch among them.
+pub fn all_plain(level: u8, octets: &[u8]) -> bool
+    ensures { λ r. ⌜ r ≡ plain level (now (octets .entry)) ⌝ }
+{
+    let mut so_far = true;
+    let mut i = 0;
+    while i < octets.len() {
+        so_far = and_plain(so_far, level, octets[i]);
+        i += 1;
+    }
+    so_far
+}
+
+fn and_plain(so_far: bool, level: u8, x: u8) -> bool
+    ensures { λ r. ⌜ r ≡ cond (isEscaped level x) false «so_far» ⌝ }
+{
+    if is_escaped(level, x) {
+        return false;
+    }
+    so_far
 }
 
 // The wrapping negate: the two's complement of an octet.

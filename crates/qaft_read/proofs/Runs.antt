@@ -1,80 +1,33 @@
--- Laws of runs: what plain octets are made of, and that a run does at once what its octets do one by one. Assumes nothing.
+-- Laws of runs: a run does at once what its octets do one by one. Assumes nothing.
 use Prim.Native.Nat.{ℕ, suc, _+_, _-_, _%_, _≤_, _<_}
-use mathlib.Core.Bool.{Bool, true, false, cond}
+use mathlib.Core.Bool.{true, false, cond}
 use mathlib.Core.List.{List, [], _∷_, _++_}
 use mathlib.Core.Path.{_≡_, refl, sym, ap, ap₂, subst, _∙_}
-use native.Mathlib.Numerals.{add-one}
 use native.Mathlib.Omega.{arith}
 use borrow.Author.Tests.{lt-ltb}
-use lib.Dec.{ltb, eqb}
-use lib.ListN.{length, getD, take, drop, set, drop-of-length-le, take-append-drop, length-drop}
-use lib.Seq.{sets, drop-cons, take-suc, take-all, take-take, take-add, drop-drop, length-take-le}
+use lib.Dec.{ltb}
+use lib.ListN.{length, take, drop, set, take-append-drop, length-drop}
+use lib.Seq.{sets, take-all, take-take, drop-drop, length-take-le}
 use Rattle.line.proofs.Scan.{after-zero, after-after}
-use Rattle.line.specs.Scan.{Scan, after, scanOn, scan, store}
+use Rattle.line.specs.Scan.{after, scanOn, scan, store}
 use Rattle.line.specs.Scan as line
 use Rattle.qaft.proofs.Escape.{plain-octet}
 use Rattle.qaft.specs.Check.{sum, checkOctet}
-use Rattle.qaft.specs.Escape.{flag, escapeOctet, isEscaped}
+use Rattle.qaft.specs.Escape.{isEscaped, plain}
+use Rattle.qaft.proofs.Plain.{plain-parts}
 use Rattle.qaft.specs.Limits.{maxSegment, countCap}
 use Rattle.qaft_read.specs.Read.{action, actionOf}
-use Rattle.qaft_read.specs.Run.{plain, Run, withRun}
+use Rattle.qaft_read.specs.Run.{Run, withRun}
 use Rattle.qaft_read.specs.Step.{joined, stored, inSegment, step}
-use Rattle.qaft_read.specs.declared.Action.the-variants.{Store}
 use Rattle.qaft_read.specs.declared.Reader.{Reader}
 use Rattle.qaft_read.specs.declared.Report.{Report}
 
--- a loop that tests all octets xs and stands at octet i; b: those before it are plain
-module _ (xs : List ℕ) (i : ℕ) (b : Bool) where
-  swap : (e c : Bool) → cond (cond e false b) c false ≡ cond b (cond e false c) false
-  swap true c = by b
-    where
-      by : (b : Bool) → false ≡ cond b false false
-      by true = refl
-      by false = refl
-  swap false c = refl
-
-  pub plain-next : i < length xs → cond b (plain (drop i xs)) false ≡ cond (cond (isEscaped 0 (getD xs i 0)) false b) (plain (drop (i + 1) xs)) false
-  unfolding plain
-  plain-next h = rw (add-one, drop-cons xs i 0 h) (sym (swap (isEscaped 0 (getD xs i 0)) (plain (drop (suc i) xs))))
-
-  pub plain-end : length xs ≤ i → cond b (plain (drop i xs)) false ≡ b
-  unfolding plain
-  plain-end h = rw (drop-of-length-le xs h) (by b)
-    where
-      by : (b : Bool) → cond b true false ≡ b
-      by true = refl
-      by false = refl
-
-both : (e c : Bool) → cond e false c ≡ true → (e ≡ false) × (c ≡ true)
-both true c h = let y : _≡_ {A = ℕ} 0 1 = cc in absurd (omega arith)
-both false c h = (refl, h)
-
-plain-++ : (xs ys : List ℕ) → plain xs ≡ true → plain ys ≡ true → plain (xs ++ ys) ≡ true
-unfolding plain
-plain-++ [] ys p q = q
-plain-++ (x ∷ xs) ys p q =
-    let h = both (isEscaped 0 x) (plain xs) p in
-    rw (h .0) (plain-++ xs ys (h .1) q)
-
--- plain octets at the front: none, one more, and a block more
-pub plain-none : (xs : List ℕ) → plain (take 0 xs) ≡ true
-unfolding plain
-plain-none xs = refl
-
-module _ (xs : List ℕ) (n : ℕ) (p : plain (take n xs) ≡ true) where
-  pub plain-more : n < length xs → isEscaped 0 (getD xs n 0) ≡ false → plain (take (n + 1) xs) ≡ true
-  unfolding plain
-  plain-more h e = rw (add-one, take-suc xs n 0 h) (plain-++ (take n xs) (getD xs n 0 ∷ []) p (rw e))
-
-  pub plain-block : (k : ℕ) → plain (take k (drop n xs)) ≡ true → plain (take (n + k) xs) ≡ true
-  plain-block k q = rw (take-add n k xs) (plain-++ (take n xs) (take k (drop n xs)) p q)
-
 -- what is found at the front of a chunk, or of the part of it that the segment has room for, is a run
 module _ (r : Reader) (s : r .synced ≡ true) (p : r .pending ≡ false) (xs : List ℕ) (n : ℕ) where
-  pub run-found : n ≤ length xs → r .count + n ≤ maxSegment → plain (take n xs) ≡ true → Run r (take n xs)
+  pub run-found : n ≤ length xs → r .count + n ≤ maxSegment → plain 0 (take n xs) ≡ true → Run r (take n xs)
   run-found h room q = (s, p, rw (length-take-le n xs h) room, q)
 
-  pub run-found-within : (k : ℕ) → k ≤ length xs → r .count + k ≤ maxSegment → n ≤ length (take k xs) → plain (take n (take k xs)) ≡ true
+  pub run-found-within : (k : ℕ) → k ≤ length xs → r .count + k ≤ maxSegment → n ≤ length (take k xs) → plain 0 (take n (take k xs)) ≡ true
       → (n ≤ length xs) × (0 < n → Run r (take n xs))
   run-found-within k h room m q =
       let l : n ≤ k = rw (length-take-le k xs h) at m in
@@ -129,7 +82,7 @@ unfolding scan scanOn plain joined withRun
 scan-run [] ys r m run = after-zero _
 scan-run (x ∷ xs) ys r m run =
     let ok = run (omega arith) in
-    let e = both (isEscaped 0 x) (plain xs) (ok .3) in
+    let e = plain-parts 0 x xs (ok .3) in
     let room : r .count < maxSegment = omega (arith, ok .2) in
     let k : joined r x .count ≡ suc (r .count) = rw (lt-ltb (r .count) maxSegment room) (omega arith) in
     let rest : joined r x .count + length xs ≤ maxSegment = omega (arith, k, ok .2) in

@@ -1,13 +1,13 @@
 // Octets of a segment that stand for themselves come in runs, mostly long ones. A run is found, stored and summed as a whole,
 // many octets at a time, and only the octets between runs take a step each. What a run is and does: specs/Run.
 ghost use mathlib.Core.Path.{_≡_};
-ghost use mathlib.Core.Bool.{true, false, cond};
+ghost use mathlib.Core.Bool.{true};
 ghost use Prim.Native.Nat.{_+_, _<_, _≤_};
 ghost use lib.ListN.{length, take};
 ghost use lib.Seq.{sets};
-ghost use Rattle.qaft.specs.Escape.{isEscaped};
+ghost use Rattle.qaft.specs.Escape.{plain};
 ghost use Rattle.qaft.specs.Limits.{maxSegment};
-ghost use Rattle.qaft_read.specs.Run.{plain, Run, withRun};
+ghost use Rattle.qaft_read.specs.Run.{Run, withRun};
 use crate::Reader;
 
 // So many octets are looked at together, without a branch: one vector of the machine.
@@ -15,7 +15,7 @@ const BLOCK: usize = 16;
 
 // How many octets of a chunk's front join the segment as they are. 0 outside a segment, behind an escape, and where the segment
 // is full.
-pub fn run_length(reader: Reader, octets: &[u8]) -> usize
+pub(crate) fn run_length(reader: Reader, octets: &[u8]) -> usize
     ensures { λ r. ⌜ r ≤ length (now (octets .entry)) ⌝ }
     ensures { λ r. ⌜ (0 < r → Run reader (take r (now (octets .entry)))) ⌝ }
 {
@@ -37,7 +37,7 @@ pub fn run_length(reader: Reader, octets: &[u8]) -> usize
 }
 
 // A run joins the segment. No octets are no run, and change nothing.
-pub fn with_run(reader: Reader, octets: &[u8], buffer: &mut [u8]) -> Reader
+pub(crate) fn with_run(reader: Reader, octets: &[u8], buffer: &mut [u8]) -> Reader
     requires { ⌜ (0 < length (now octets) → reader .count + length (now octets) ≤ maxSegment) ⌝ }
     requires { ⌜ maxSegment ≤ length (now buffer) ⌝ }
     ensures { λ r. ⌜ r ≡ withRun reader (now (octets .entry)) ⌝ }
@@ -47,7 +47,7 @@ pub fn with_run(reader: Reader, octets: &[u8], buffer: &mut [u8]) -> Reader
         return reader;
     }
     let n = reader.count;
-    store(octets, buffer, n);
+    octets::put(octets, buffer, n);
     let c = qaft::check_octet(octets);
     Reader {
         level: reader.level,
@@ -61,7 +61,7 @@ pub fn with_run(reader: Reader, octets: &[u8], buffer: &mut [u8]) -> Reader
 // How many octets of the front are plain.
 fn plain_length(octets: &[u8]) -> usize
     ensures { λ r. ⌜ r ≤ length (now (octets .entry)) ⌝ }
-    ensures { λ r. ⌜ plain (take r (now (octets .entry))) ≡ true ⌝ }
+    ensures { λ r. ⌜ plain 0 (take r (now (octets .entry))) ≡ true ⌝ }
 {
     let mut n = plain_blocks(octets);
     while n < octets.len() {
@@ -76,50 +76,16 @@ fn plain_length(octets: &[u8]) -> usize
 // How many octets of the front are plain, counted in whole blocks.
 fn plain_blocks(octets: &[u8]) -> usize
     ensures { λ r. ⌜ r ≤ length (now (octets .entry)) ⌝ }
-    ensures { λ r. ⌜ plain (take r (now (octets .entry))) ≡ true ⌝ }
+    ensures { λ r. ⌜ plain 0 (take r (now (octets .entry))) ≡ true ⌝ }
 {
     let mut n = 0;
     while BLOCK <= octets.len() - n {
         let next = n + BLOCK;
-        if all_plain(&octets[n..next]) {
+        if qaft::all_plain(0, &octets[n..next]) {
             n = next;
         } else {
             return n;
         }
     }
     n
-}
-
-// Whether all octets are plain.
-fn all_plain(octets: &[u8]) -> bool
-    ensures { λ r. ⌜ r ≡ plain (now (octets .entry)) ⌝ }
-{
-    let mut so_far = true;
-    let mut i = 0;
-    while i < octets.len() {
-        so_far = and_plain(so_far, octets[i]);
-        i += 1;
-    }
-    so_far
-}
-
-fn and_plain(so_far: bool, x: u8) -> bool
-    ensures { λ r. ⌜ r ≡ cond (isEscaped 0 x) false «so_far» ⌝ }
-{
-    if qaft::is_escaped(0, x) {
-        return false;
-    }
-    so_far
-}
-
-// Puts octets into the buffer, from the index `at` on.
-fn store(octets: &[u8], buffer: &mut [u8], at: usize)
-    requires { ⌜ at + length (now octets) ≤ length (now buffer) ⌝ }
-    ensures { λ _. ⌜ now (buffer .exit) ≡ sets (now (buffer .entry)) at (now (octets .entry)) ⌝ }
-{
-    let mut i = 0;
-    while i < octets.len() {
-        buffer[at + i] = octets[i];
-        i += 1;
-    }
 }

@@ -1,4 +1,4 @@
 pub mod Frame
 pub mod Refusals
 pub mod Sending
-pub mod Plain
+pub mod Blocks

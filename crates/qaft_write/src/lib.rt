@@ -9,7 +9,6 @@ ghost use lib.Seq.{sets};
 ghost use Rattle.qaft.specs.Limits.{maxData};
 ghost use Rattle.qaft.specs.Escape.{isEscaped, escapeOne, escape};
 ghost use Rattle.qaft.specs.Frame.{opening};
-ghost use Rattle.qaft_write.specs.Plain.{plain};
 ghost use Rattle.qaft_write.specs.Write.{writeFrame, frameWith};
 
 // So many octets are looked at together.
@@ -155,45 +154,10 @@ fn put_block(level: u8, octets: &[u8], out: &mut [u8], at: usize) -> usize
     ensures { λ r. ⌜ r ≡ at + length (escape level (now (octets .entry))) ⌝ }
     ensures { λ _. ⌜ now (out .exit) ≡ sets (now (out .entry)) at (escape level (now (octets .entry))) ⌝ }
 {
-    if all_plain(level, octets) {
-        put_plain(octets, out, at);
-        return at + octets.len();
+    if qaft::all_plain(level, octets) {
+        return octets::put(octets, out, at);
     }
     put_each(level, octets, out, at)
-}
-
-// Whether the level escapes none of the octets. All are looked at, so that there is no branch among them.
-fn all_plain(level: u8, octets: &[u8]) -> bool
-    ensures { λ r. ⌜ r ≡ plain level (now (octets .entry)) ⌝ }
-{
-    let mut so_far = true;
-    let mut i = 0;
-    while i < octets.len() {
-        so_far = and_plain(so_far, level, octets[i]);
-        i += 1;
-    }
-    so_far
-}
-
-fn and_plain(so_far: bool, level: u8, x: u8) -> bool
-    ensures { λ r. ⌜ r ≡ cond (isEscaped level x) false «so_far» ⌝ }
-{
-    if qaft::is_escaped(level, x) {
-        return false;
-    }
-    so_far
-}
-
-// Octets as they are, from the index `at` on.
-fn put_plain(octets: &[u8], out: &mut [u8], at: usize)
-    requires { ⌜ at + length (now octets) ≤ length (now out) ⌝ }
-    ensures { λ _. ⌜ now (out .exit) ≡ sets (now (out .entry)) at (now (octets .entry)) ⌝ }
-{
-    let mut i = 0;
-    while i < octets.len() {
-        out[at + i] = octets[i];
-        i += 1;
-    }
 }
 
 // Octets one by one, escaped, from the index `at` on; the index after them.

@@ -1,13 +1,14 @@
 -- `qaft_write::put_block` meets its contract. Assumes nothing.
-use Prim.Native.Nat.{ℕ, _+_}
+use Prim.Native.Nat.{ℕ, _+_, _≤_}
 use mathlib.Core.List.{List}
 use mathlib.Core.Path.{_≡_, sym, ap, _∙_}
 use native.Mathlib.Omega.{arith}
 use borrow.Author.Needs.{needs}
 use lib.ListN.{length}
 use lib.Seq.{sets}
+use Rattle.octets.proofs.Putting.{end-fits, into-fits}
 use Rattle.qaft.specs.Escape.{escape}
-use Rattle.qaft_write.proofs.Plain.{escape-plain}
+use Rattle.qaft.proofs.Plain.{escape-plain}
 use Rattle.qaft_write.proofs.put_block.Statement.{statement}
 use Rattle.qaft_write.proofs.put_block.Tie as tie
 
@@ -18,20 +19,21 @@ as-is c = escape-plain _ _ (sym (c .before .all-plain .ensures) ∙ c .if1 .take
 all-plain-requires : tie.Need-all-plain-requires
 all-plain-requires c κs = search needs
 
-put-plain-requires : tie.Need-put-plain-requires
-put-plain-requires c κs = omega (arith, ap length (as-is (c .before)), c .before .before .before .before .before .pre)
-
-add-result : tie.Need-add-result
-add-result c = search needs
+put-requires : tie.Need-put-requires
+put-requires c κs = tt
 
 same-length : tie.Need-same-length
 same-length c = search needs
 
 returns : tie.Need-returns
 returns c =
-    let s = c .before .before .before .before .before .before .before .before .args in
+    let s = c .before .before .before .before .before .before .before .before in
+    let a = s .args in
     let e = sym (as-is (c .before .before .before .before)) in
-    (ap (λ (l : List ℕ). s .at + length l) e, c .before .before .put-plain .ensures ∙ ap (λ (l : List ℕ). sets (s .out .now) (s .at) l) e)
+    let room : a .at + length (a .octets .now) ≤ length (a .out .now) = omega (arith, ap length e, s .pre) in (
+      c .before .before .put .ensures .0 ∙ end-fits _ _ _ room ∙ ap (λ (l : List ℕ). a .at + length l) e,
+      c .before .before .put .ensures .1 ∙ into-fits _ _ _ room ∙ ap (λ (l : List ℕ). sets (a .out .now) (a .at) l) e,
+    )
 
 put-each-requires : tie.Need-put-each-requires
 put-each-requires c κs = search needs
@@ -47,8 +49,7 @@ put-block-spec =
     tie.close
     (tie.spec
     all-plain-requires
-    put-plain-requires
-    add-result
+    put-requires
     same-length
     returns
     put-each-requires

@@ -9,7 +9,7 @@ use lib.Seq.{sets}
 use Rattle.common.proofs.Buffer.{sets-++}
 use Rattle.qaft.proofs.Escape.{escape-end}
 use Rattle.qaft.specs.Escape.{escape}
-use Rattle.qaft_write.proofs.Plain.{escape-block}
+use Rattle.qaft_write.proofs.Blocks.{escape-block}
 use Rattle.qaft_write.proofs.put_blocks.Statement.{statement}
 use Rattle.qaft_write.proofs.put_blocks.Tie as tie
 

@@ -5,7 +5,7 @@ use native.Mathlib.Omega.{arith}
 use borrow.Author.Needs.{needs}
 use lib.ListN.{length}
 use lib.Seq.{length-take-le}
-use Rattle.qaft_write.proofs.Plain.{whole-blocks, length-parts, sets-parts}
+use Rattle.qaft_write.proofs.Blocks.{whole-blocks, length-parts, sets-parts}
 use Rattle.qaft_write.proofs.put_octets.Statement.{statement}
 use Rattle.qaft_write.proofs.put_octets.Tie as tie
 

@@ -5,19 +5,19 @@ use mathlib.Core.Path.{_≡_, sym, ap, _∙_}
 use native.Mathlib.Omega.{arith}
 use borrow.Author.Needs.{needs}
 use lib.ListN.{length, take, drop}
-use Rattle.qaft_read.proofs.Runs.{plain-none, plain-block}
+use Rattle.qaft.proofs.Plain.{plain-none, plain-block}
 use Rattle.qaft_read.proofs.run.plain_blocks.Statement.{statement}
 use Rattle.qaft_read.proofs.run.plain_blocks.Tie as tie
-use Rattle.qaft_read.specs.Run.{plain}
+use Rattle.qaft.specs.Escape.{plain}
 
 abbrev Inv-loop : tie.InvT-loop
-Inv-loop octets n₀ n = (n ≤ length octets) × (plain (take n octets) ≡ true)
+Inv-loop octets n₀ n = (n ≤ length octets) × (plain 0 (take n octets) ≡ true)
 
 abbrev μ-loop : tie.MeasureT-loop
 μ-loop octets n₀ n = length octets - n
 
 loop-holds : tie.Need-loop-holds Inv-loop μ-loop
-loop-holds c = (omega arith, plain-none (c .before .args .octets .now))
+loop-holds c = (omega arith, plain-none 0 (c .before .args .octets .now))
 
 sub-loop : tie.Need-sub-loop Inv-loop μ-loop
 sub-loop c = search needs
@@ -45,8 +45,8 @@ loop-again c =
     let l = c .before .before .before .before .loop in
     let xs = c .before .before .before .before .before .before .args .octets .now in
     let z : l .n + 16 - l .n ≡ 16 = omega arith in
-    let e = ap (λ (k : ℕ). plain (take k (drop (l .n) xs))) (sym z) ∙ sym (c .before .all-plain .ensures) ∙ c .if1 .taken in
-    (omega arith, plain-block xs (l .n) (l .inv .1) 16 e)
+    let e = ap (λ (k : ℕ). plain 0 (take k (drop (l .n) xs))) (sym z) ∙ sym (c .before .all-plain .ensures) ∙ c .if1 .taken in
+    (omega arith, plain-block 0 xs (l .n) (l .inv .1) 16 e)
 
 returns : tie.Need-returns Inv-loop μ-loop
 returns c = c .before .before .before .before .loop .inv

@@ -5,13 +5,13 @@ use mathlib.Core.Path.{_≡_, sym, _∙_}
 use native.Mathlib.Omega.{arith}
 use borrow.Author.Needs.{needs}
 use lib.ListN.{length, take}
-use Rattle.qaft_read.proofs.Runs.{plain-more}
+use Rattle.qaft.proofs.Plain.{plain-more}
 use Rattle.qaft_read.proofs.run.plain_length.Statement.{statement}
 use Rattle.qaft_read.proofs.run.plain_length.Tie as tie
-use Rattle.qaft_read.specs.Run.{plain}
+use Rattle.qaft.specs.Escape.{plain}
 
 abbrev Inv-loop : tie.InvT-loop
-Inv-loop octets n₀ n = (n ≤ length octets) × (plain (take n octets) ≡ true)
+Inv-loop octets n₀ n = (n ≤ length octets) × (plain 0 (take n octets) ≡ true)
 
 abbrev μ-loop : tie.MeasureT-loop
 μ-loop octets n₀ n = length octets - n
@@ -41,7 +41,7 @@ loop-again : tie.Need-loop-again Inv-loop μ-loop
 loop-again c =
     let l = c .before .before .before .before .loop in
     let xs = c .before .before .before .before .before .before .before .args .octets .now in
-    (omega arith, plain-more xs (l .n) (l .inv .1) (c .before .before .before .loop-test .taken) (sym (c .before .is-escaped .ensures) ∙ c .if1 .left))
+    (omega arith, plain-more 0 xs (l .n) (l .inv .1) (c .before .before .before .loop-test .taken) (sym (c .before .is-escaped .ensures) ∙ c .if1 .left))
 
 returns-2 : tie.Need-returns-2 Inv-loop μ-loop
 returns-2 c = c .before .loop .inv

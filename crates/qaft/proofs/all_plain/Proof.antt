@@ -1,20 +1,20 @@
--- `qaft_read::run::all_plain` meets its contract. The loop's invariant: those before octet i and those left give all. Assumes nothing.
+-- `qaft::all_plain` meets its contract. The loop's invariant: those before octet i and those left give all. Assumes nothing.
 use Prim.Native.Nat.{_+_, _-_, _≤_}
 use mathlib.Core.Bool.{Bool, false, cond}
 use mathlib.Core.Path.{_≡_, sym, ap, _∙_}
 use native.Mathlib.Omega.{arith}
 use borrow.Author.Needs.{needs}
 use lib.ListN.{length, drop}
-use Rattle.qaft_read.proofs.Runs.{plain-next, plain-end}
-use Rattle.qaft_read.proofs.run.all_plain.Statement.{statement}
-use Rattle.qaft_read.proofs.run.all_plain.Tie as tie
-use Rattle.qaft_read.specs.Run.{plain}
+use Rattle.qaft.proofs.Plain.{plain-next, plain-end}
+use Rattle.qaft.proofs.all_plain.Statement.{statement}
+use Rattle.qaft.proofs.all_plain.Tie as tie
+use Rattle.qaft.specs.Escape.{plain}
 
 abbrev Inv-loop : tie.InvT-loop
-Inv-loop octets so-far₀ i₀ so-far i = (i ≤ length octets) × (cond so-far (plain (drop i octets)) false ≡ plain octets)
+Inv-loop level octets so-far₀ i₀ so-far i = (i ≤ length octets) × (cond so-far (plain level (drop i octets)) false ≡ plain level octets)
 
 abbrev μ-loop : tie.MeasureT-loop
-μ-loop octets so-far₀ i₀ so-far i = length octets - i
+μ-loop level octets so-far₀ i₀ so-far i = length octets - i
 
 loop-holds : tie.Need-loop-holds Inv-loop μ-loop
 loop-holds c = search needs
@@ -35,13 +35,14 @@ loop-again : tie.Need-loop-again Inv-loop μ-loop
 loop-again c =
     let l = c .before .before .before in
     let xs = l .before .before .args .octets .now in
-    let e = ap (λ (b : Bool). cond b (plain (drop (l .loop .i + 1) xs)) false) (c .and-plain .ensures) in
-    (omega arith, e ∙ sym (plain-next xs (l .loop .i) (l .loop .so-far) (omega arith)) ∙ l .loop .inv .1)
+    let level = l .before .before .args .level in
+    let e = ap (λ (b : Bool). cond b (plain level (drop (l .loop .i + 1) xs)) false) (c .and-plain .ensures) in
+    (omega arith, e ∙ sym (plain-next level xs (l .loop .i) (l .loop .so-far) (omega arith)) ∙ l .loop .inv .1)
 
 returns : tie.Need-returns Inv-loop μ-loop
 returns c =
     let l = c .before in
-    sym (plain-end (l .before .before .args .octets .now) (l .loop .i) (l .loop .so-far) (omega arith)) ∙ l .loop .inv .1
+    sym (plain-end (l .before .before .args .level) (l .before .before .args .octets .now) (l .loop .i) (l .loop .so-far) (omega arith)) ∙ l .loop .inv .1
 
 pub all-plain-spec : {M : Type 1} → statement M
 all-plain-spec =

@@ -1,8 +1,8 @@
--- `qaft_read::run::and_plain` meets its contract. Assumes nothing.
+-- `qaft::and_plain` meets its contract. Assumes nothing.
 use mathlib.Core.Path.{sym, _∙_}
 use borrow.Author.Needs.{needs}
-use Rattle.qaft_read.proofs.run.and_plain.Statement.{statement}
-use Rattle.qaft_read.proofs.run.and_plain.Tie as tie
+use Rattle.qaft.proofs.and_plain.Statement.{statement}
+use Rattle.qaft.proofs.and_plain.Tie as tie
 
 is-escaped-requires : tie.Need-is-escaped-requires
 is-escaped-requires c κs = search needs
