@@ -3,7 +3,7 @@ use Prim.Native.Nat.{ℕ}
 use mathlib.Core.Path.{_≡_, ap, ap₂, _∙_}
 use Rattle.desk.specs.Reading.{inNumbers}
 use Rattle.desk.specs.declared.ReadAnswer.{ReadAnswer}
-use Rattle.qaft_read.specs.Answer.{number, dataLength}
+use Rattle.qaft_report.specs.Answer.{number, dataLength}
 use Rattle.qaft_read.specs.declared.Answer.{Answer}
 
 pub inNumbers-parts : (a b : Answer) (n k : ℕ) → n ≡ number (a .outcome) → k ≡ dataLength (a .outcome) → a ≡ b

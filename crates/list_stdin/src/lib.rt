@@ -7,8 +7,8 @@ ghost use lib.Dec.{ltb};
 ghost use Rattle.qaft.specs.Limits.{maxLevel};
 ghost use Rattle.qaft.specs.Answers.{badLevel, done};
 use listing::Counts;
-use qaft_read::Outcome;
 use qaft_read::Reader;
+use qaft_report::Outcome;
 
 const IN: i32 = 0;
 

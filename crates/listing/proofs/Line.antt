@@ -12,9 +12,9 @@ use Rattle.common.proofs.Buffer.{sets-++}
 use Rattle.listing.proofs.Text.{length-hex, length-decimal}
 use Rattle.listing.specs.Line.{newline, space, name, details, reportLine, lineRoom, dataOf, putReport, putEnd}
 use Rattle.listing.specs.Text.{maxDigits, decimal, hex}
-use Rattle.qaft_read.proofs.Report as reports
-use Rattle.qaft_read.specs.declared.Report.{Report}
-use Rattle.qaft_read.specs.declared.Report.the-variants.{Frame, Aborted, Long, Short, BadCheck}
+use Rattle.qaft_report.proofs.Report as reports
+use Rattle.qaft_report.specs.declared.Report.{Report}
+use Rattle.qaft_report.specs.declared.Report.the-variants.{Frame, Aborted, Long, Short, BadCheck}
 
 pub length-name : (p : Report) → length (name p) ≤ 8
 unfolding name

@@ -6,9 +6,9 @@ use lib.Dec.{leb}
 use lib.ListN.{length}
 use lib.Seq.{sets}
 use Rattle.listing.specs.Text.{decimal, maxDigits, hex}
-use Rattle.qaft_read.specs.Answer.{reportLength, shown}
-use Rattle.qaft_read.specs.declared.Report.{Report}
-use Rattle.qaft_read.specs.declared.Report.the-variants.{Frame, Aborted, Long, Short, BadCheck}
+use Rattle.qaft_report.specs.Answer.{reportLength, shown}
+use Rattle.qaft_report.specs.declared.Report.{Report}
+use Rattle.qaft_report.specs.declared.Report.the-variants.{Frame, Aborted, Long, Short, BadCheck}
 
 abbrev pub newline : List ℕ
 newline = 10 ∷ []

@@ -7,7 +7,7 @@ ghost use lib.Seq.{sets};
 ghost use Rattle.listing.specs.Text.{decimal, maxDigits, hexDigit, hex};
 ghost use Rattle.listing.specs.Line.{name, details, reportLine, lineRoom, dataOf, putReport, putEnd};
 ghost use Rattle.listing.specs.Counts.{none, count, countAll};
-use qaft_read::Report;
+use qaft_report::Report;
 
 // The most digits of a number.
 const MAX_DIGITS: usize = 20;

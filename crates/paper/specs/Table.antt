@@ -17,7 +17,7 @@ use Rattle.qaft.specs.Limits.{maxSegment}
 use Rattle.qaft.specs.Answers.{frameRead}
 use Rattle.qaft_read.specs.State.{fresh}
 use Rattle.qaft_read.specs.Read.{read}
-use Rattle.qaft_read.specs.Answer.{number, dataLength, shown}
+use Rattle.qaft_report.specs.Answer.{number, dataLength, shown}
 use Rattle.qaft_laws.specs.Reports.{Reported, aborted, short, badCheck, reportsOf}
 
 -- a row of the table

@@ -18,7 +18,7 @@ use Rattle.qaft_read.proofs.Refusals.{Fit, read-badLevel, read-bufferTooSmall, 
 use Rattle.qaft_read.specs.Read.{action, Call, outcomeOf, callOf, scanCall, refusal, reportOf, readScan}
 use Rattle.qaft_read.specs.State.{malformed}
 use Rattle.qaft_read.specs.declared.Reader.{Reader}
-use Rattle.qaft_read.specs.declared.Report.{Report}
+use Rattle.qaft_report.specs.declared.Report.{Report}
 
 -- a call that is not refused is a scan
 reportOf-outcomeOf : (o : Option Report) → reportOf (outcomeOf o) ≡ o

@@ -22,7 +22,7 @@ use Rattle.qaft_read.specs.Verdict.{verdict}
 use Rattle.qaft_read.specs.declared.Action.{Action}
 use Rattle.qaft_read.specs.declared.Action.the-variants.{Advance}
 use Rattle.qaft_read.specs.declared.Reader.{Reader}
-use Rattle.qaft_read.specs.declared.Report.{Report}
+use Rattle.qaft_report.specs.declared.Report.{Report}
 use Rattle.qaft_read.specs.declared.Verdict.{Verdict}
 use Rattle.qaft_read.specs.declared.Verdict.the-variants.{Closed}
 

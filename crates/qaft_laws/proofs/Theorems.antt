@@ -27,9 +27,9 @@ use Rattle.qaft_laws.specs.Stored.{undoneIn}
 use Rattle.qaft_read.specs.Read.{action, Call, callOf, scanCall, refusal, refusals, read, readScan}
 use Rattle.qaft_read.specs.State.{fresh, malformed}
 use Rattle.qaft_read.specs.declared.Answer.{Answer}
-use Rattle.qaft_read.specs.declared.Outcome.the-variants.{Refused}
+use Rattle.qaft_report.specs.declared.Outcome.the-variants.{Refused}
 use Rattle.qaft_read.specs.declared.Reader.{Reader}
-use Rattle.qaft_read.specs.declared.Report.{Report}
+use Rattle.qaft_report.specs.declared.Report.{Report}
 use Rattle.qaft_write.proofs.Sending.{sent-line}
 use Rattle.qaft_write.specs.Sending.{sent}
 

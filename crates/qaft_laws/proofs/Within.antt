@@ -13,7 +13,7 @@ use Rattle.common.proofs.Bools.{either}
 use Rattle.qaft.specs.Check.{sum}
 use Rattle.qaft.specs.Limits.{maxSegment, countCap}
 use Rattle.qaft_laws.specs.Reports.{judge, shownReport}
-use Rattle.qaft_read.specs.Answer.{shown}
+use Rattle.qaft_report.specs.Answer.{shown}
 use Rattle.qaft_read.specs.Step.{joined, stored}
 use Rattle.qaft_read.specs.Verdict.{verdict}
 use Rattle.qaft_read.specs.declared.Action.the-variants.{Advance, Store}

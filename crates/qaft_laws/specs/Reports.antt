@@ -15,9 +15,9 @@ use Rattle.line.specs.Trace.{Event}
 use Rattle.qaft.specs.Check.{sum}
 use Rattle.qaft.specs.Escape.{flag, escapeOctet, masked}
 use Rattle.qaft.specs.Limits.{checkSize, minSegment, maxSegment}
-use Rattle.qaft_read.specs.Answer.{reportLength, shown}
-use Rattle.qaft_read.specs.declared.Report.{Report}
-use Rattle.qaft_read.specs.declared.Report.the-variants as report
+use Rattle.qaft_report.specs.Answer.{reportLength, shown}
+use Rattle.qaft_report.specs.declared.Report.{Report}
+use Rattle.qaft_report.specs.declared.Report.the-variants as report
 
 -- a report, a frame with its data
 pub data Reported : Type 0 where

@@ -15,9 +15,9 @@ use Rattle.qaft.specs.Answers.{bufferTooSmall, badState, badLevel}
 use Rattle.qaft.specs.Limits.{maxLevel, maxSegment}
 use Rattle.qaft_read.specs.Read.{action, Call, outcomeOf, callOf, scanCall, refusal, refusals, read}
 use Rattle.qaft_read.specs.State.{malformed}
-use Rattle.qaft_read.specs.declared.Outcome.the-variants.{Reported}
+use Rattle.qaft_report.specs.declared.Outcome.the-variants.{Reported}
 use Rattle.qaft_read.specs.declared.Reader.{Reader}
-use Rattle.qaft_read.specs.declared.Report.{Report}
+use Rattle.qaft_report.specs.declared.Report.{Report}
 
 -- a reader and a buffer that no call refuses
 pub record Fit (r : Reader) (m : List ℕ) : Type 0 where

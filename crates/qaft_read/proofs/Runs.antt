@@ -20,7 +20,7 @@ use Rattle.qaft_read.specs.Read.{action, actionOf}
 use Rattle.qaft_read.specs.Run.{Run, withRun}
 use Rattle.qaft_read.specs.Step.{joined, stored, inSegment, step}
 use Rattle.qaft_read.specs.declared.Reader.{Reader}
-use Rattle.qaft_read.specs.declared.Report.{Report}
+use Rattle.qaft_report.specs.declared.Report.{Report}
 
 -- what is found at the front of a chunk, or of the part of it that the segment has room for, is a run
 module _ (r : Reader) (s : r .synced ≡ true) (p : r .pending ≡ false) (xs : List ℕ) (n : ℕ) where

@@ -3,4 +3,3 @@ pub mod Verdict
 pub mod Step
 pub mod Run
 pub mod Read
-pub mod Answer

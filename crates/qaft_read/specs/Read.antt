@@ -14,10 +14,10 @@ use Rattle.qaft_read.specs.Step.{step}
 use Rattle.qaft_read.specs.declared.Action.{Action}
 use Rattle.qaft_read.specs.declared.Action.the-variants.{Advance, Store, Emit}
 use Rattle.qaft_read.specs.declared.Answer.{Answer}
-use Rattle.qaft_read.specs.declared.Outcome.{Outcome}
-use Rattle.qaft_read.specs.declared.Outcome.the-variants.{Refused, Reported, UsedUp}
+use Rattle.qaft_report.specs.declared.Outcome.{Outcome}
+use Rattle.qaft_report.specs.declared.Outcome.the-variants.{Refused, Reported, UsedUp}
 use Rattle.qaft_read.specs.declared.Reader.{Reader}
-use Rattle.qaft_read.specs.declared.Report.{Report}
+use Rattle.qaft_report.specs.declared.Report.{Report}
 
 -- the step as an action of the generic reader of the crate line
 unfoldable pub actionOf : Action → line.Action Reader Report

@@ -4,7 +4,7 @@ use mathlib.Core.Bool.{cond}
 use lib.Dec.{ltb, eqb}
 use Rattle.qaft.specs.Limits.{checkSize, minSegment, maxSegment}
 use Rattle.qaft_read.specs.declared.Reader.{Reader}
-use Rattle.qaft_read.specs.declared.Report.the-variants.{Frame, Aborted, Long, Short, BadCheck}
+use Rattle.qaft_report.specs.declared.Report.the-variants.{Frame, Aborted, Long, Short, BadCheck}
 use Rattle.qaft_read.specs.declared.Verdict.{Verdict}
 use Rattle.qaft_read.specs.declared.Verdict.the-variants.{Empty, Closed}
 

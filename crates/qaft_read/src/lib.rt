@@ -1,5 +1,5 @@
 // QAFT: the chunk reader. The state and its names: specs/State; the verdict on a segment: specs/Verdict; one octet:
-// specs/Step; a call: specs/Read; the numbers of an answer: specs/Answer. Runs of octets that stand for themselves: run.rt.
+// specs/Step; a call: specs/Read; reports and their numbers: the crate qaft_report. Runs of octets that stand for themselves: run.rt.
 ghost use mathlib.Core.Path.{_≡_};
 ghost use mathlib.Core.Bool.{not};
 ghost use Prim.Native.Nat.{ℕ, _≤_};
@@ -9,7 +9,8 @@ ghost use Rattle.qaft_read.specs.State.{fresh, malformed};
 ghost use Rattle.qaft_read.specs.Verdict.{verdict};
 ghost use Rattle.qaft_read.specs.Step.{stored, inSegment, step};
 ghost use Rattle.qaft_read.specs.Read.{scanCall, read};
-ghost use Rattle.qaft_read.specs.Answer.{reportNumber, number, reportLength, dataLength, shown};
+use qaft_report::Outcome;
+use qaft_report::Report;
 
 mod run;
 
@@ -20,15 +21,6 @@ pub struct Reader {
     pub pending: bool,
     pub count: usize,
     pub sum: u8,
-}
-
-// What a closed segment is reported as; a frame has its number of data octets.
-pub enum Report {
-    Frame(usize),
-    Aborted,
-    Long,
-    Short,
-    BadCheck,
 }
 
 // The verdict on a segment at its closing flag. An empty one is not reported.
@@ -42,12 +34,6 @@ pub enum Action {
     Advance(Reader),
     Store(Reader, usize, u8),
     Emit(Report, Reader),
-}
-
-pub enum Outcome {
-    Refused(u8),
-    Reported(Report),
-    UsedUp,
 }
 
 // The answer to a call: what came of it, the octets taken, and the state for the next call.
@@ -254,72 +240,5 @@ impl Reader {
             return Verdict::Closed(Report::BadCheck);
         }
         Verdict::Closed(Report::Frame(n - 1))
-    }
-}
-
-impl Report {
-    // The number given back for a report.
-    pub fn number(self) -> u8
-        ensures { λ r. ⌜ r ≡ reportNumber self ⌝ }
-    {
-        match self {
-            Report::Frame(_) => qaft::FRAME,
-            Report::Aborted => qaft::ABORTED,
-            Report::Long => qaft::TOO_LONG,
-            Report::Short => qaft::TOO_SHORT,
-            Report::BadCheck => qaft::BAD_CHECK,
-        }
-    }
-
-    // How many data octets it shows: 0 unless it is a frame.
-    pub fn data_length(self) -> usize
-        ensures { λ r. ⌜ r ≡ reportLength self ⌝ }
-    {
-        match self {
-            Report::Frame(n) => n,
-            Report::Aborted => 0,
-            Report::Long => 0,
-            Report::Short => 0,
-            Report::BadCheck => 0,
-        }
-    }
-}
-
-impl Outcome {
-    // The number given back for an outcome.
-    pub fn number(self) -> u8
-        ensures { λ r. ⌜ r ≡ number self ⌝ }
-    {
-        match self {
-            Outcome::Refused(n) => n,
-            Outcome::Reported(report) => report.number(),
-            Outcome::UsedUp => qaft::USED_UP,
-        }
-    }
-
-    // How many data octets it shows: 0 unless a frame is reported.
-    pub fn data_length(self) -> usize
-        ensures { λ r. ⌜ r ≡ dataLength self ⌝ }
-    {
-        match self {
-            Outcome::Refused(_) => 0,
-            Outcome::Reported(report) => report.data_length(),
-            Outcome::UsedUp => 0,
-        }
-    }
-}
-
-impl Answer {
-    // The data of the frame that is reported, as a part of the buffer, without the check octet; no octets unless a frame is.
-    pub fn frame_data(self, buffer: &[u8]) -> &[u8]
-        ensures { λ r. ⌜ now r ≡ shown (now (buffer .entry)) (dataLength (self .outcome)) ⌝ }
-    {
-        let outcome = self.outcome;
-        let n = outcome.data_length();
-        if n <= buffer.len() {
-            &buffer[..n]
-        } else {
-            &buffer[..0]
-        }
     }
 }

@@ -10,8 +10,8 @@ use Rattle.list_stdin.proofs.list_chunk.Tie as tie
 use Rattle.qaft_read.proofs.Refusals.{read-taken, read-report-takes}
 use Rattle.qaft_read.specs.Read.{read}
 use Rattle.qaft_read.specs.declared.Answer.{Answer}
-use Rattle.qaft_read.specs.declared.Outcome.the-variants.{Reported}
-use Rattle.qaft_read.specs.declared.Report.{Report}
+use Rattle.qaft_report.specs.declared.Outcome.the-variants.{Reported}
+use Rattle.qaft_report.specs.declared.Report.{Report}
 
 abbrev Inv-loop : tie.InvT-loop
 Inv-loop chunk buffer₀ out₀ counts r₀ n₀ at₀ i₀ buffer out r n at i = (i ≤ length chunk) × (length buffer ≡ length buffer₀) × (length out ≡ length out₀)

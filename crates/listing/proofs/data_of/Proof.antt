@@ -5,7 +5,7 @@ use borrow.Author.Tests.{le-leb, lt-leb}
 use lib.Seq.{length-take-le}
 use Rattle.listing.proofs.data_of.Statement.{statement}
 use Rattle.listing.proofs.data_of.Tie as tie
-use Rattle.qaft_read.specs.Answer.{shown}
+use Rattle.qaft_report.specs.Answer.{shown}
 
 data-length-requires : tie.Need-data-length-requires
 data-length-requires c κs = search needs

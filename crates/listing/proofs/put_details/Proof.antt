@@ -11,7 +11,7 @@ use Rattle.listing.proofs.Text.{length-decimal}
 use Rattle.listing.proofs.put_details.Statement.{statement}
 use Rattle.listing.proofs.put_details.Tie as tie
 use Rattle.listing.specs.Line.{details}
-use Rattle.qaft_read.specs.declared.Report.{Report}
+use Rattle.qaft_report.specs.declared.Report.{Report}
 
 -- from behind a piece to behind the one before it
 abbrev start : tie.After-put → tie.Start

@@ -13,7 +13,7 @@ use Rattle.qaft_read.proofs.Steps.{step-index}
 use Rattle.qaft_read.specs.Read.{action, actionOf, outcomeOf, callOf, scanCall}
 use Rattle.qaft_read.specs.declared.Action.{Action}
 use Rattle.qaft_read.specs.declared.Reader.{Reader}
-use Rattle.qaft_read.specs.declared.Report.{Report}
+use Rattle.qaft_report.specs.declared.Report.{Report}
 
 abbrev Inv-loop : tie.InvT-loop
 Inv-loop chunk buffer₀ r₀ i₀ buffer r i =

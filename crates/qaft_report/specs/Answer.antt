@@ -5,10 +5,10 @@ use mathlib.Core.List.{List, []}
 use lib.Dec.{leb}
 use lib.ListN.{length, take}
 use Rattle.qaft.specs.Answers.{frameRead, aborted, tooLong, tooShort, badCheck, usedUp}
-use Rattle.qaft_read.specs.declared.Outcome.{Outcome}
-use Rattle.qaft_read.specs.declared.Outcome.the-variants.{Refused, Reported, UsedUp}
-use Rattle.qaft_read.specs.declared.Report.{Report}
-use Rattle.qaft_read.specs.declared.Report.the-variants.{Frame, Aborted, Long, Short, BadCheck}
+use Rattle.qaft_report.specs.declared.Outcome.{Outcome}
+use Rattle.qaft_report.specs.declared.Outcome.the-variants.{Refused, Reported, UsedUp}
+use Rattle.qaft_report.specs.declared.Report.{Report}
+use Rattle.qaft_report.specs.declared.Report.the-variants.{Frame, Aborted, Long, Short, BadCheck}
 
 -- the number given back
 abbrev pub reportNumber : Report → ℕ

@@ -1,4 +1,4 @@
--- `qaft_read::Answer::frame_data` meets its contract. Assumes nothing.
+-- `Outcome::frame_data` meets its contract. Assumes nothing.
 use Prim.Native.Nat.{_≤_, _<_}
 use mathlib.Core.Path.{ap, _∙_, sym}
 use native.Mathlib.Omega.{arith}
@@ -6,9 +6,9 @@ use borrow.Author.Needs.{needs}
 use borrow.Author.Tests.{le-leb, lt-leb}
 use lib.ListN.{length}
 use lib.Seq.{length-take-le}
-use Rattle.qaft_read.proofs.Answer.frame_data.Statement.{statement}
-use Rattle.qaft_read.proofs.Answer.frame_data.Tie as tie
-use Rattle.qaft_read.specs.Answer.{shown}
+use Rattle.qaft_report.proofs.Outcome.frame_data.Statement.{statement}
+use Rattle.qaft_report.proofs.Outcome.frame_data.Tie as tie
+use Rattle.qaft_report.specs.Answer.{shown}
 
 data-length-requires : tie.Need-data-length-requires
 data-length-requires c κs = search needs
