@@ -5,7 +5,7 @@ ghost use Prim.Native.Nat.{ℕ, _+_, _*_, _≤_, _<_};
 ghost use lib.ListN.{length, drop};
 ghost use lib.Seq.{sets};
 ghost use Rattle.listing.specs.Text.{decimal, maxDigits, hexDigit, hex};
-ghost use Rattle.listing.specs.Line.{name, details, reportLine, lineRoom, dataOf, putReport, putEnd};
+ghost use Rattle.listing.specs.Line.{name, details, reportLine, lineRoom, putReport, putEnd};
 ghost use Rattle.listing.specs.Counts.{none, count, countAll};
 use qaft_report::Report;
 
@@ -77,7 +77,7 @@ pub fn put_report(number: u64, report: Report, buffer: &[u8], out: &mut [u8], at
     ensures { λ r. ⌜ r ≡ putEnd number report (now (buffer .entry)) (length (now (out .entry))) at ⌝ }
     ensures { λ _. ⌜ now (out .exit) ≡ putReport number report (now (buffer .entry)) (now (out .entry)) at ⌝ }
 {
-    let octets = data_of(report, buffer);
+    let octets = report.frame_data(buffer);
     if out.len() < at {
         return at;
     }
@@ -89,18 +89,6 @@ pub fn put_report(number: u64, report: Report, buffer: &[u8], out: &mut [u8], at
         return at;
     }
     put_line(number, report, octets, out, at)
-}
-
-// The data that a report shows: none unless it is a frame.
-fn data_of(report: Report, buffer: &[u8]) -> &[u8]
-    ensures { λ r. ⌜ now r ≡ dataOf report (now (buffer .entry)) ⌝ }
-{
-    let n = report.data_length();
-    if n <= buffer.len() {
-        &buffer[..n]
-    } else {
-        &buffer[..0]
-    }
 }
 
 fn put_line(number: u64, report: Report, octets: &[u8], out: &mut [u8], at: usize) -> usize

@@ -45,6 +45,13 @@ impl Report {
             Report::BadCheck => 0,
         }
     }
+
+    // The data of a frame, as a part of the reader's buffer, without the check octet; no octets unless it is one.
+    pub fn frame_data(self, buffer: &[u8]) -> &[u8]
+        ensures { λ r. ⌜ now r ≡ shown (now (buffer .entry)) (reportLength self) ⌝ }
+    {
+        front(buffer, self.data_length())
+    }
 }
 
 impl Outcome {
@@ -70,15 +77,22 @@ impl Outcome {
         }
     }
 
-    // The data of the frame that is reported, as a part of the reader's buffer, without the check octet; no octets unless a frame is.
+    // The data of the frame that is reported; no octets unless one is.
     pub fn frame_data(self, buffer: &[u8]) -> &[u8]
         ensures { λ r. ⌜ now r ≡ shown (now (buffer .entry)) (dataLength self) ⌝ }
     {
         let n = self.data_length();
-        if n <= buffer.len() {
-            &buffer[..n]
-        } else {
-            &buffer[..0]
-        }
+        front(buffer, n)
+    }
+}
+
+// The first n octets of a reader's buffer, or none where it has fewer.
+fn front(buffer: &[u8], n: usize) -> &[u8]
+    ensures { λ r. ⌜ now r ≡ shown (now (buffer .entry)) n ⌝ }
+{
+    if n <= buffer.len() {
+        &buffer[..n]
+    } else {
+        &buffer[..0]
     }
 }

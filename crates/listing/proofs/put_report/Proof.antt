@@ -11,8 +11,8 @@ use Rattle.listing.proofs.put_report.Statement.{statement}
 use Rattle.listing.proofs.put_report.Tie as tie
 use Rattle.listing.specs.Line.{reportLine}
 
-data-of-requires : tie.Need-data-of-requires
-data-of-requires c κs = search needs
+frame-data-requires : tie.Need-frame-data-requires
+frame-data-requires c κs = search needs
 
 returns : tie.Need-returns
 returns c =
@@ -32,7 +32,7 @@ returns-2 c =
 returns-3 : tie.Need-returns-3
 returns-3 c =
     let s = c .before .before .before .before .before .before .args in
-    let e = put-noRoom (s .number) (s .report) (s .buffer .now) (s .out .now) (s .at) (omega (arith, c .if3 .taken, c .before .if2 .left, c .before .before .if1 .left, ap length (c .before .before .before .data-of .ensures))) in
+    let e = put-noRoom (s .number) (s .report) (s .buffer .now) (s .out .now) (s .at) (omega (arith, c .if3 .taken, c .before .if2 .left, c .before .before .if1 .left, ap length (c .before .before .before .frame-data .ensures))) in
     (sym (e .0), sym (e .1))
 
 put-line-requires : tie.Need-put-line-requires
@@ -44,7 +44,7 @@ same-length c = search needs
 returns-4 : tie.Need-returns-4
 returns-4 c =
     let s = c .before .before .before .before .before .before .before .before .before .before .args in
-    let d = c .before .before .before .before .before .before .before .data-of .ensures in
+    let d = c .before .before .before .before .before .before .before .frame-data .ensures in
     let e = put-room (s .number) (s .report) (s .buffer .now) (s .out .now) (s .at) (omega (arith, c .before .before .before .before .if3 .left, c .before .before .before .before .before .if2 .left, c .before .before .before .before .before .before .if1 .left, ap length d)) in (
       c .before .before .put-line .ensures .0 ∙ ap (λ (x : List ℕ). s .at + length (reportLine (s .number) (s .report) x)) d ∙ sym (e .0),
       c .before .before .put-line .ensures .1 ∙ ap (λ (x : List ℕ). sets (s .out .now) (s .at) (reportLine (s .number) (s .report) x)) d ∙ sym (e .1),
@@ -54,7 +54,7 @@ pub put-report-spec : {M : Type 1} → statement M
 put-report-spec =
     tie.close
     (tie.spec
-    data-of-requires
+    frame-data-requires
     returns
     sub-room
     returns-2
