@@ -14,7 +14,7 @@ use Rattle.afp_write.specs.Frame.{frameOf}
 use Rattle.qaft.specs.Escape.{flag}
 use Rattle.qaft.specs.Frame.{frame}
 use Rattle.qaft.specs.Limits.{maxSegment}
-use Rattle.qaft.specs.Answers.{frameRead}
+use Rattle.qaft.specs.Answers as answers
 use Rattle.qaft_read.specs.State.{fresh}
 use Rattle.qaft_read.specs.Read.{read}
 use Rattle.qaft_report.specs.Answer.{number, dataLength, shown}
@@ -45,7 +45,7 @@ between s = flag ∷ s ++ (flag ∷ [])
 
 -- what a row claims
 abbrev pub Holds : Case → Type 0
-Holds (frames level d l) = (frame level false d ≡ l) × Reads level l frameRead d
+Holds (frames level d l) = (frame level false d ≡ l) × Reads level l answers.frame d
 Holds (reports s p n) = (reportsOf (between s) ≡ p ∷ []) × Reads 0 (between s) n []
 Holds (arrives m packet e) = arrivalOf m packet replySize ≡ e
 Holds (sums xs s) = sumFrom 0 xs ≡ s

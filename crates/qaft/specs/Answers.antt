@@ -26,17 +26,17 @@ abbrev pub badLevel : ℕ
 badLevel = 6
 
 -- reader's reports: "frame, aborted, long, short, bad check"
-abbrev pub frameRead : ℕ
-frameRead = 10
+abbrev pub frame : ℕ
+frame = 10
 
 abbrev pub aborted : ℕ
 aborted = 11
 
-abbrev pub tooLong : ℕ
-tooLong = 12
+abbrev pub long : ℕ
+long = 12
 
-abbrev pub tooShort : ℕ
-tooShort = 13
+abbrev pub short : ℕ
+short = 13
 
 abbrev pub badCheck : ℕ
 badCheck = 14

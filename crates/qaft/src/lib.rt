@@ -46,9 +46,9 @@ pub const FRAME: u8 = 10;
 
 pub const ABORTED: u8 = 11;
 
-pub const TOO_LONG: u8 = 12;
+pub const LONG: u8 = 12;
 
-pub const TOO_SHORT: u8 = 13;
+pub const SHORT: u8 = 13;
 
 pub const BAD_CHECK: u8 = 14;
 

@@ -4,7 +4,7 @@ use mathlib.Core.Bool.{cond}
 use mathlib.Core.List.{List, []}
 use lib.Dec.{leb}
 use lib.ListN.{length, take}
-use Rattle.qaft.specs.Answers.{frameRead, aborted, tooLong, tooShort, badCheck, usedUp}
+use Rattle.qaft.specs.Answers.{frame, aborted, long, short, badCheck, usedUp}
 use Rattle.qaft_report.specs.declared.Outcome.{Outcome}
 use Rattle.qaft_report.specs.declared.Outcome.the-variants.{Refused, Reported, UsedUp}
 use Rattle.qaft_report.specs.declared.Report.{Report}
@@ -12,10 +12,10 @@ use Rattle.qaft_report.specs.declared.Report.the-variants.{Frame, Aborte
 
 -- the number given back
 abbrev pub reportNumber : Report → ℕ
-reportNumber (Frame n) = frameRead
+reportNumber (Frame n) = frame
 reportNumber Aborted = aborted
-reportNumber Long = tooLong
-reportNumber Short = tooShort
+reportNumber Long = long
+reportNumber Short = short
 reportNumber BadCheck = badCheck
 
 abbrev pub number : Outcome → ℕ

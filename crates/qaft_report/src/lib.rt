@@ -27,8 +27,8 @@ impl Report {
         match self {
             Report::Frame(_) => qaft::FRAME,
             Report::Aborted => qaft::ABORTED,
-            Report::Long => qaft::TOO_LONG,
-            Report::Short => qaft::TOO_SHORT,
+            Report::Long => qaft::LONG,
+            Report::Short => qaft::SHORT,
             Report::BadCheck => qaft::BAD_CHECK,
         }
     }
