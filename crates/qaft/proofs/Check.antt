@@ -13,10 +13,6 @@ unfolding sum
 sum-++ [] ys = omega arith
 sum-++ (x ∷ xs) ys = omega (arith, sum-++ xs ys)
 
-pub checkOctet-octet : (d : List ℕ) → checkOctet d < 256
-unfolding checkOctet
-checkOctet-octet d = omega arith
-
 -- "data and check sum to 0 modulo 256"
 pub sum-checked : (d : List ℕ) → sum (d ++ (checkOctet d ∷ [])) % 256 ≡ 0
 unfolding checkOctet sum
