@@ -1,9 +1,10 @@
 -- Laws of `trace`: reading on, and a first call and then the rest. Assumes nothing.
-use Prim.Native.Nat.{ℕ, _+_}
+use Prim.Native.Nat.{ℕ, suc, _+_, _≤_}
 use mathlib.Core.List.{List, [], _∷_, _++_}
 use mathlib.Core.Path.{_≡_, refl, sym, ap, _∙_}
 use native.Mathlib.Numerals.{one-add}
-use lib.ListN.{drop, set}
+use native.Mathlib.Omega.{arith}
+use lib.ListN.{length, drop, set}
 use Rattle.line.specs.Scan.{Action, advance, store, emit, Scan, after, scanOn, scan}
 use Rattle.line.specs.Trace.{Trace, noEvent, oneEvent, traceOn, trace, andThen, reported}
 
@@ -42,3 +43,15 @@ module _ {S R : Type 0} (f : S → ℕ → Action S R) where
   unfolding trace scan
   trace-scan [] s m = refl
   trace-scan (x ∷ xs) s m = traceOn-scan (f s x) x xs m (λ t n. trace-scan xs t n)
+
+  -- no more reports than octets
+  events-on : (a : Action S R) (xs m : List ℕ) → ((t : S) (n : List ℕ) → length (trace f t xs n .events) ≤ length xs) → length (traceOn a (λ t n. trace f t xs n) m .events) ≤ suc (length xs)
+  unfolding traceOn oneEvent
+  events-on (advance t) xs m h = omega (arith, h t m)
+  events-on (store t i y) xs m h = omega (arith, h t (set m i y))
+  events-on (emit r t) xs m h = omega (arith, h t m)
+
+  pub trace-events : (xs : List ℕ) (s : S) (m : List ℕ) → length (trace f s xs m .events) ≤ length xs
+  unfolding trace noEvent
+  trace-events [] s m = omega arith
+  trace-events (x ∷ xs) s m = events-on (f s x) xs m (λ t n. trace-events xs t n)

@@ -57,7 +57,8 @@ module _ (r : Reader) (xs m : List ℕ) where
   unfolding refusal scanCall callOf
   read-taken = read-ind (λ (k : Call). k .answer .taken ≤ length xs) (λ _. omega arith) (λ _. scan-taken action xs r m)
 
-some-reported : (o : Option Report) (p : Report) → outcomeOf o ≡ Reported p → o ≡ some p
+-- a call that reports has made a report
+pub some-reported : (o : Option Report) (p : Report) → outcomeOf o ≡ Reported p → o ≡ some p
 unfolding outcomeOf
 some-reported none p e = cc
 some-reported (some q) p e = cc

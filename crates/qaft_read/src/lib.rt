@@ -2,7 +2,7 @@
 // specs/Step; a call: specs/Read; reports and their numbers: the crate qaft_report. Runs of octets that stand for themselves: run.rt.
 ghost use mathlib.Core.Path.{_≡_};
 ghost use mathlib.Core.Bool.{not};
-ghost use Prim.Native.Nat.{ℕ, _≤_};
+ghost use Prim.Native.Nat.{_≤_};
 ghost use lib.ListN.{length};
 ghost use Rattle.qaft.specs.Limits.{maxSegment};
 ghost use Rattle.qaft_read.specs.State.{fresh, malformed};
