@@ -1,13 +1,11 @@
 // QAFT: the frame writer. What it answers and writes: specs/Write; a frame on the line: the crate qaft, specs/Frame.
 ghost use mathlib.Core.Path.{_≡_};
-ghost use mathlib.Core.Bool.{false, cond};
-ghost use mathlib.Core.List.{List, [], _∷_};
-ghost use Prim.Native.Nat.{ℕ, _+_, _%_, _≤_};
+ghost use Prim.Native.Nat.{_+_, _%_, _≤_};
 ghost use lib.Dec.{leb};
 ghost use lib.ListN.{length};
 ghost use lib.Seq.{sets};
 ghost use Rattle.qaft.specs.Limits.{maxData};
-ghost use Rattle.qaft.specs.Escape.{isEscaped, escapeOne, escape};
+ghost use Rattle.qaft.specs.Escape.{escapeOne, escape};
 ghost use Rattle.qaft.specs.Frame.{opening};
 ghost use Rattle.qaft_write.specs.Write.{writeFrame, frameWith};
 
