@@ -36,7 +36,7 @@ seen-scanCall r xs m =
     let u = scan action r xs m in
     λ i. record { report = reportOf-outcomeOf (u .report) i; taken = u .taken; state = u .state; buffer = u .buffer }
 
-readScan-scan : (r : Reader) (xs m : List ℕ) → Fit r m → readScan r xs m ≡ scan action r xs m
+pub readScan-scan : (r : Reader) (xs m : List ℕ) → Fit r m → readScan r xs m ≡ scan action r xs m
 unfolding readScan
 readScan-scan r xs m h = ap seen (read-scan r xs m (h .level) (h .room) (h .formed)) ∙ seen-scanCall r xs m
 

@@ -1,4 +1,5 @@
 pub mod Formed
+pub mod Lengths
 pub mod Cutting
 pub mod Segments
 pub mod Within

@@ -125,7 +125,7 @@ unfolding trace noEvent shownReports reportsOf afterFlag segments reportsOfSegme
 trace-reports [] l m r = refl
 trace-reports (x ∷ xs) l m r = hunting-turn l x xs m r (trace-reports xs l m r) (eqb x flag) refl
 
-fresh-fit : (l : ℕ) (m : List ℕ) → l ≤ 1 → maxSegment ≤ length m → Fit (fresh l) m
+pub fresh-fit : (l : ℕ) (m : List ℕ) → l ≤ 1 → maxSegment ≤ length m → Fit (fresh l) m
 unfolding malformed
 fresh-fit l m k r = record { level = k; room = r; formed = refl }
 

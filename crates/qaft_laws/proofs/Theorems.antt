@@ -12,26 +12,28 @@ use lib.Seq.{sets}
 use Rattle.common.proofs.Refusals.{guarded-map}
 use Rattle.common.specs.Refusals.{guarded}
 use Rattle.line.proofs.Scan.{apart, scan-apart}
+use Rattle.line.proofs.Trace.{onwards, trace-scan}
 use Rattle.line.specs.Scan.{Scan}
-use Rattle.line.specs.Trace.{readChunks}
+use Rattle.line.specs.Trace.{Trace, trace, noEvent, readChunks}
 use Rattle.qaft.specs.Answers.{badLevel, bufferTooSmall, badState}
-use Rattle.qaft.specs.Frame.{line, Writable}
-use Rattle.qaft.specs.Limits.{maxLevel, maxSegment, maxFrame}
-use Rattle.qaft_laws.proofs.Cutting.{cuttings}
+use Rattle.qaft.specs.Frame.{line}
+use Rattle.qaft.specs.Limits.{maxLevel, maxSegment}
+use Rattle.qaft_laws.proofs.Cutting.{readScan-scan, cuttings}
 use Rattle.qaft_laws.proofs.Formed.{read-formed}
 use Rattle.qaft_laws.proofs.Meaning.{meaning}
 use Rattle.qaft_laws.proofs.Stored.{scan-stored}
 use Rattle.qaft_laws.proofs.Written.{reportsOf-line}
 use Rattle.qaft_laws.specs.Reports.{frame, reportsOf, shownReports}
 use Rattle.qaft_laws.specs.Stored.{undoneIn}
+use Rattle.qaft_read.proofs.Refusals.{Fit}
 use Rattle.qaft_read.specs.Read.{action, Call, callOf, scanCall, refusal, refusals, read, readScan}
 use Rattle.qaft_read.specs.State.{fresh, malformed}
 use Rattle.qaft_read.specs.declared.Answer.{Answer}
 use Rattle.qaft_report.specs.declared.Outcome.the-variants.{Refused}
 use Rattle.qaft_read.specs.declared.Reader.{Reader}
 use Rattle.qaft_report.specs.declared.Report.{Report}
-use Rattle.qaft_write.proofs.Sending.{sent-line}
-use Rattle.qaft_write.specs.Sending.{sent}
+use Rattle.qaft_write.proofs.Sending.{done-wrote, octetsOf, done-writable, sent-line}
+use Rattle.qaft_write.specs.Sending.{Lent, sent, AllDone}
 
 -- 1. Cutting: every two ways of cutting a line into chunks, empty ones too, give the same reports, each with the same buffer and so the same
 -- data, the same last state and the same last buffer; from every state and with every buffer, refused ones too.
@@ -60,14 +62,21 @@ buffer-after-a-call r xs m = by-tests (ltb maxLevel (r .level)) (ltb (length m) 
     by-tests false false true e = refl
     by-tests false false false e = scan-stored r xs m e
 
--- 4. Demand 2: frames of 1 to 2,560 octets, written one after another and read at the same level, come back, exactly and in order, however
--- what was written is cut, and whatever the two buffers hold.
-pub written-then-read : (level : ℕ) → level ≤ maxLevel → (ds : List (List ℕ)) → Writable ds
-    → (out : List ℕ) → maxFrame ≤ length out → (m : List ℕ) → maxSegment ≤ length m
-    → (xss : List (List ℕ)) → flatten xss ≡ sent level false ds out
-    → shownReports (readChunks readScan (fresh level) xss m .events) ≡ map frame ds
-written-then-read level h ds ok out room m fits xss e =
-    reads-what-the-line-reports level h m fits (line level ds) xss (e ∙ sent-line level h ds out ok room) ∙ reportsOf-line level ds ok
+-- 4. Demand 2: frames that were written one after another, each call answered with 0 and with any out buffer of its own, come back when they are
+-- read at the same level, exactly and in order, however what was written is cut, and whatever the reader's buffer holds.
+pub written-then-read : (level : ℕ) (cs : List Lent) → AllDone level false cs
+    → (m : List ℕ) → maxSegment ≤ length m → (xss : List (List ℕ)) → flatten xss ≡ sent level false cs
+    → shownReports (readChunks readScan (fresh level) xss m .events) ≡ map frame (octetsOf cs)
+unfolding sent readChunks noEvent shownReports flatten
+written-then-read level [] ok m fits xss e = ap (λ (t : Trace Reader Report). shownReports (t .events)) (every-cutting-reads-alike xss [] e (fresh level) m)
+written-then-read level (c ∷ cs) ok m fits xss e =
+    let h = done-wrote level false (c .octets) (c .out) (ok .0) .level-good in
+    let ds = octetsOf (c ∷ cs) in
+    reads-what-the-line-reports level h m fits (line level ds) xss (e ∙ sent-line level (c ∷ cs) ok) ∙ reportsOf-line level ds (done-writable level false (c ∷ cs) ok)
+
+-- What a consumer of reports needs: a call and then the rest of the chunk are the trace of the chunk, for a state and a buffer that no call refuses.
+pub read-then-rest : (r : Reader) (xs m : List ℕ) → Fit r m → trace action r xs m ≡ onwards xs (trace action) (readScan r xs m)
+read-then-rest r xs m h = trace-scan action xs r m ∙ ap (onwards xs (trace action)) (sym (readScan-scan r xs m h))
 
 -- 5. A well formed state stays well formed, whatever the chunk and the buffer; among them a fresh state, the highest count, and a 7D pending
 -- before any octet of a segment.
