@@ -5,8 +5,8 @@ use mathlib.Core.Path.{_≡_, refl}
 use native.Mathlib.Numerals.{add-one}
 use lib.ListN.{length, getD, drop, drop-of-length-le}
 use lib.Seq.{drop-cons}
-use Rattle.listing.specs.Counts.{count, countAll}
-use Rattle.listing.specs.declared.Counts.{Counts}
+use Rattle.capture.specs.Counts.{count, countAll}
+use Rattle.capture.specs.declared.Counts.{Counts}
 
 -- chunk after chunk is the whole line
 pub countAll-++ : (c : Counts) (xs ys : List ℕ) → countAll c (xs ++ ys) ≡ countAll (countAll c xs) ys

@@ -1,9 +1,10 @@
--- The listing's counts of raw octets before the first flag and after the last. Cited by `Counts::add`. Assumes nothing.
+-- Raw octets of a capture before the first flag and after the last, counted chunk after chunk. Cited by `Counts::add`; what they are of a whole
+-- capture is said in Whole. Assumes nothing.
 use Prim.Native.Nat.{ℕ, _+_, _%_, _^_}
 use mathlib.Core.Bool.{true, false, cond}
 use mathlib.Core.List.{List, [], _∷_}
 use lib.Dec.{eqb}
-use Rattle.listing.specs.declared.Counts.{Counts}
+use Rattle.capture.specs.declared.Counts.{Counts}
 use Rattle.qaft.specs.Escape.{flag}
 
 -- the counts wrap at 2^64
@@ -11,8 +12,8 @@ abbrev pub next : ℕ → ℕ
 next n = (n + 1) % 2 ^ 64
 
 -- nothing read yet
-abbrev pub none : Counts
-none = record { synced = false; before = 0; after = 0 }
+abbrev pub freshCounts : Counts
+freshCounts = record { synced = false; before = 0; after = 0 }
 
 -- one octet more: a flag, after which none stands yet; an octet after a flag; an octet before any
 unfoldable pub count : Counts → (x : ℕ) → Counts

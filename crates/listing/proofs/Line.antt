@@ -1,104 +1,158 @@
--- Laws of a line of the listing, and of the cases of `put_report`. Assumes nothing.
+-- Laws of the lines of a listing: their lengths, and the pieces of a line put down one after another. Assumes nothing.
 use Prim.Native.Nat.{ℕ, _+_, _*_, _-_, _≤_, _<_}
+use mathlib.Core.Bool.{Bool, true, false}
 use mathlib.Core.List.{List, [], _∷_, _++_}
-use mathlib.Core.Path.{_≡_, refl, sym, ap, ap₂, _∙_}
+use mathlib.Core.Path.{_≡_, refl, sym, ap, ap₂, _∙_, subst}
+use native.Mathlib.Nat.{add-zero}
 use native.Mathlib.Omega.{arith}
 use types.Run.{OneOf, miss}
 use denote.Enum.Declared.{tagOf}
-use borrow.Author.Tests.{le-leb, lt-leb}
-use lib.ListN.{length, take, drop, length-append, length-drop}
-use lib.Seq.{sets, take-all}
-use Rattle.common.proofs.Buffer.{sets-++}
-use Rattle.listing.proofs.Text.{length-hex, length-decimal}
-use Rattle.listing.specs.Line.{newline, space, name, details, reportLine, lineRoom, dataOf, putReport, putEnd}
-use Rattle.listing.specs.Text.{maxDigits, decimal, hex}
+use borrow.Author.Tests.{le-leb, lt-leb, leb-true, leb-false}
+use lib.Dec.{leb}
+use lib.ListN.{length, take, drop, length-append}
+use lib.Seq.{sets}
+use Rattle.listing.specs.Line.{name, details, reportLine, lineRoom, shortLine, textInto, textEnd, dataOf, roomOf, lineOf}
+use Rattle.listing.specs.Names.{names, nameStart, nameEnd}
+use Rattle.octets.specs.Put.{putInto, putEnd}
 use Rattle.qaft_report.proofs.Report as reports
 use Rattle.qaft_report.specs.declared.Report.{Report}
 use Rattle.qaft_report.specs.declared.Report.the-variants.{Frame, Aborted, Long, Short, BadCheck}
+use Rattle.text.specs.Placed.{Placed}
+use Rattle.text.proofs.Putting.{placed, placed-++, length-placed}
+use Rattle.text.proofs.Text.{length-hex, length-decimal}
+use Rattle.text.specs.Text.{ascii, maxDigits, decimal, hex}
+
+-- the name of a report is the part of the text of all names
+pub name-part : (p : Report) → take (nameEnd p - nameStart p) (drop (nameStart p) names) ≡ name p
+name-part (Frame n) = refl
+name-part Aborted = refl
+name-part Long = refl
+name-part Short = refl
+name-part BadCheck = refl
+
+-- and so is what is put of it
+pub put-named : (p : Report) (from end r i : ℕ) (m m′ : List ℕ) → from ≡ nameStart p → end ≡ nameEnd p
+    → r ≡ putEnd (take (end - from) (drop from names)) m i → m′ ≡ putInto (take (end - from) (drop from names)) m i
+    → (r ≡ putEnd (name p) m i) × (m′ ≡ putInto (name p) m i)
+put-named p from end r i m m′ a b e d =
+    let part : take (end - from) (drop from names) ≡ name p = ap₂ (λ (j k : ℕ). take (k - j) (drop j names)) a b ∙ name-part p in
+    (e ∙ ap (λ (t : List ℕ). putEnd t m i) part, d ∙ ap (λ (t : List ℕ). putInto t m i) part)
+
+pub name-within : (p : Report) → (nameStart p ≤ nameEnd p) × (nameEnd p ≤ 29)
+name-within (Frame n) = (omega arith, omega arith)
+name-within Aborted = (omega arith, omega arith)
+name-within Long = (omega arith, omega arith)
+name-within Short = (omega arith, omega arith)
+name-within BadCheck = (omega arith, omega arith)
 
 pub length-name : (p : Report) → length (name p) ≤ 8
-unfolding name
 length-name (Frame n) = omega arith
 length-name Aborted = omega arith
 length-name Long = omega arith
 length-name Short = omega arith
 length-name BadCheck = omega arith
 
--- the parts behind a frame's name
-pub length-details-frame : (n : ℕ) (d : List ℕ) → length (details (Frame n) d) ≡ 1 + length (decimal (length d)) + 1 + length (hex d)
-unfolding details
-length-details-frame n d =
-    omega (arith, length-append (decimal (length d)) (space ++ hex d))
-
 pub length-details : (p : Report) (d : List ℕ) → length (details p d) ≤ 2 * length d + (maxDigits + 2)
 unfolding details
-length-details (Frame n) d = omega (arith, length-append (decimal (length d)) (space ++ hex d), length-decimal (length d), length-hex d)
+length-details (Frame n) d = omega (arith, length-append (decimal (length d)) (ascii " " ++ hex d), length-decimal (length d), length-hex d)
 length-details Aborted d = omega arith
 length-details Long d = omega arith
 length-details Short d = omega arith
 length-details BadCheck d = omega arith
 
-module _ (k : ℕ) (p : Report) (d : List ℕ) where
-  pub length-reportLine : length (reportLine k p d) ≡ length (decimal k) + length (name p) + length (details p d) + 1
-  unfolding reportLine
-  length-reportLine =
-      omega (arith, length-append (decimal k) (name p ++ (details p d ++ newline)), length-append (name p) (details p d ++ newline), length-append (details p d) newline)
+pub length-reportLine : (k : ℕ) (p : Report) (d : List ℕ) → length (reportLine k p d) ≤ lineRoom (length d)
+unfolding reportLine
+length-reportLine k p d =
+    omega (
+      arith,
+      length-append (decimal k) (name p ++ (details p d ++ ascii "\n")),
+      length-append (name p) (details p d ++ ascii "\n"),
+      length-append (details p d) (ascii "\n"),
+      length-decimal k,
+      length-name p,
+      length-details p d,
+    )
 
-  -- the pieces put down one after another
-  module _ (m m₁ m₂ m₃ m₄ : List ℕ) (i a b c : ℕ)
-      (e₁ : m₁ ≡ sets m i (decimal k)) (k₁ : a ≡ i + length (decimal k))
-      (e₂ : m₂ ≡ sets m₁ a (name p)) (k₂ : b ≡ a + length (name p))
-      (e₃ : m₃ ≡ sets m₂ b (details p d)) (k₃ : c ≡ b + length (details p d))
-      (e₄ : m₄ ≡ sets m₃ c newline) where
-    pub sets-reportLine : m₄ ≡ sets m i (reportLine k p d)
+-- the line of a report: its number, its name, what stands behind it, the newline
+module _ (k : ℕ) (p : Report) (d : List ℕ) (m m₁ m₂ : List ℕ) (i a b : ℕ) (room : i + lineRoom (length d) ≤ length m)
+    (e₁ : a ≡ putEnd (decimal k) m i) (d₁ : m₁ ≡ putInto (decimal k) m i)
+    (e₂ : b ≡ putEnd (name p) m₁ a) (d₂ : m₂ ≡ putInto (name p) m₁ a) where
+  numbered : Placed m i (decimal k) m₁ a
+  numbered = placed (decimal k) m i m₁ a (omega (arith, length-decimal k)) e₁ d₁
+
+  named : Placed m₁ a (name p) m₂ b
+  named = placed (name p) m₁ a m₂ b (omega (arith, length-decimal k, length-name p, numbered .behind, length-placed m i (decimal k) m₁ a numbered)) e₂ d₂
+
+  -- there is room for what stands behind the name
+  pub details-room : b + (2 * length d + (maxDigits + 2)) < length m₂
+  details-room =
+      omega (
+        arith,
+        length-decimal k,
+        length-name p,
+        numbered .behind,
+        named .behind,
+        length-placed m i (decimal k) m₁ a numbered,
+        length-placed m₁ a (name p) m₂ b named,
+      )
+
+  module _ (m₃ m₄ : List ℕ) (c r : ℕ) (q : Placed m₂ b (details p d) m₃ c) (e₄ : r ≡ putEnd (ascii "\n") m₃ c) (d₄ : m₄ ≡ putInto (ascii "\n") m₃ c) where
+    pub line-placed : Placed m i (reportLine k p d) m₄ r
     unfolding reportLine
-    sets-reportLine =
-        e₄
-        ∙ ap₂ (λ (n : List ℕ) (j : ℕ). sets n j newline) e₃ k₃
-        ∙ sym (sets-++ (details p d) newline m₂ b)
-        ∙ ap₂ (λ (n : List ℕ) (j : ℕ). sets n j (details p d ++ newline)) e₂ k₂
-        ∙ sym (sets-++ (name p) (details p d ++ newline) m₁ a)
-        ∙ ap₂ (λ (n : List ℕ) (j : ℕ). sets n j (name p ++ (details p d ++ newline))) e₁ k₁
-        ∙ sym (sets-++ (decimal k) (name p ++ (details p d ++ newline)) m i)
+    line-placed =
+        let kept = length-placed m₂ b (details p d) m₃ c q in
+        let ended = placed (ascii "\n") m₃ c m₄ r (omega (arith, details-room, length-details p d, q .behind, kept)) e₄ d₄ in
+        placed-++ _ _ (decimal k) _ _ _ _ _ numbered (placed-++ _ _ (name p) _ _ _ _ _ named (placed-++ _ _ (details p d) _ _ _ _ _ q ended))
 
--- behind a frame's name, likewise
-module _ (n : ℕ) (d m m₁ m₂ m₃ m₄ : List ℕ) (i a b c : ℕ)
-    (e₁ : m₁ ≡ sets m i space) (k₁ : a ≡ i + length space)
-    (e₂ : m₂ ≡ sets m₁ a (decimal (length d))) (k₂ : b ≡ a + length (decimal (length d)))
-    (e₃ : m₃ ≡ sets m₂ b space) (k₃ : c ≡ b + length space)
-    (e₄ : m₄ ≡ sets m₃ c (hex d)) where
-  pub sets-details : m₄ ≡ sets m i (details (Frame n) d)
+-- behind a frame's name: its length and its data
+module _ (p : Report) (n : ℕ) (told : p ≡ Frame n) (d m m₁ m₂ m₃ m₄ : List ℕ) (i a b c r : ℕ) (room : i + (2 * length d + (maxDigits + 2)) ≤ length m)
+    (e₁ : a ≡ putEnd (ascii " ") m i) (d₁ : m₁ ≡ putInto (ascii " ") m i)
+    (e₂ : b ≡ putEnd (decimal (length d)) m₁ a) (d₂ : m₂ ≡ putInto (decimal (length d)) m₁ a)
+    (e₃ : c ≡ putEnd (ascii " ") m₂ b) (d₃ : m₃ ≡ putInto (ascii " ") m₂ b)
+    (e₄ : r ≡ putEnd (hex d) m₃ c) (d₄ : m₄ ≡ putInto (hex d) m₃ c) where
+  frame-placed : Placed m i (details (Frame n) d) m₄ r
   unfolding details
-  sets-details =
-      e₄
-      ∙ ap₂ (λ (n : List ℕ) (j : ℕ). sets n j (hex d)) e₃ k₃
-      ∙ sym (sets-++ space (hex d) m₂ b)
-      ∙ ap₂ (λ (n : List ℕ) (j : ℕ). sets n j (space ++ hex d)) e₂ k₂
-      ∙ sym (sets-++ (decimal (length d)) (space ++ hex d) m₁ a)
-      ∙ ap₂ (λ (n : List ℕ) (j : ℕ). sets n j (decimal (length d) ++ (space ++ hex d))) e₁ k₁
-      ∙ sym (sets-++ space (decimal (length d) ++ (space ++ hex d)) m i)
+  frame-placed =
+      let few = length-decimal (length d) in
+      let p₁ = placed (ascii " ") m i m₁ a (omega arith) e₁ d₁ in
+      let k₁ = length-placed m i (ascii " ") m₁ a p₁ in
+      let p₂ = placed (decimal (length d)) m₁ a m₂ b (omega (arith, few, k₁, p₁ .behind)) e₂ d₂ in
+      let k₂ = length-placed m₁ a (decimal (length d)) m₂ b p₂ in
+      let p₃ = placed (ascii " ") m₂ b m₃ c (omega (arith, few, k₁, k₂, p₁ .behind, p₂ .behind)) e₃ d₃ in
+      let k₃ = length-placed m₂ b (ascii " ") m₃ c p₃ in
+      let p₄ = placed (hex d) m₃ c m₄ r (omega (arith, few, length-hex d, k₁, k₂, k₃, p₁ .behind, p₂ .behind, p₃ .behind)) e₄ d₄ in
+      placed-++ _ _ (ascii " ") _ _ _ _ _ p₁ (placed-++ _ _ (decimal (length d)) _ _ _ _ _ p₂ (placed-++ _ _ (ascii " ") _ _ _ _ _ p₃ p₄))
 
--- the cases of `put_report`
-module _ (k : ℕ) (p : Report) (m out : List ℕ) (i : ℕ) where
-  pub put-noRoom : length out < i + lineRoom (length (dataOf p m)) → (putEnd k p m (length out) i ≡ i) × (putReport k p m out i ≡ out)
-  unfolding putEnd putReport
-  put-noRoom h = let e = lt-leb _ _ h in (rw e, rw e)
+  pub details-placed : Placed m i (details p d) m₄ r
+  details-placed = subst (λ (p : Report). Placed m i (details p d) m₄ r) (sym told) frame-placed
 
-  pub put-room : i + lineRoom (length (dataOf p m)) ≤ length out
-      → (putEnd k p m (length out) i ≡ i + length (reportLine k p (dataOf p m))) × (putReport k p m out i ≡ sets out i (reportLine k p (dataOf p m)))
-  unfolding putEnd putReport
-  put-room h = let e = le-leb _ _ h in (rw e, rw e)
+-- room from the index i on, told by what is left behind it
+pub room-left : (i n : ℕ) → i ≤ n → leb shortLine (n - i) ≡ leb (i + shortLine) n
+room-left i n h = go (leb (i + shortLine) n) refl
+  where
+    go : (b : Bool) → leb (i + shortLine) n ≡ b → leb shortLine (n - i) ≡ b
+    go true e = let k = leb-true (i + shortLine) n e in le-leb shortLine (n - i) (omega arith)
+    go false e = let k = leb-false (i + shortLine) n e in lt-leb shortLine (n - i) (omega arith)
 
--- the name of a report that was told apart
-pub put-named : (p q : Report) → p ≡ q → (r i : ℕ) (m m′ : List ℕ) → r ≡ i + length (name q) → m′ ≡ sets m i (name q) → (r ≡ i + length (name p)) × (m′ ≡ sets m i (name p))
-put-named p q e r i m m′ a b = (a ∙ ap (λ (p : Report). i + length (name p)) (sym e), b ∙ ap (λ (p : Report). sets m i (name p)) (sym e))
+-- a text is put where there is room, and else nothing
+module _ (n : ℕ) (t out : List ℕ) (i : ℕ) where
+  pub text-none : length out < i + n → (textEnd n t (length out) i ≡ i) × (textInto n t out i ≡ out)
+  unfolding textEnd textInto
+  text-none h = let e = lt-leb _ _ h in (rw e, rw e)
 
--- the digits of a number, taken from the end of 20 octets
-pub put-digits : (n r from i : ℕ) (digits m m′ part : List ℕ) → length digits ≡ maxDigits → drop from digits ≡ decimal n → part ≡ take (maxDigits - from) (drop from digits)
-    → r ≡ i + length part → m′ ≡ sets m i part → (r ≡ i + length (decimal n)) × (m′ ≡ sets m i (decimal n))
-put-digits n r from i digits m m′ part long d e a b =
-    let whole : part ≡ decimal n = e ∙ take-all (maxDigits - from) (drop from digits) (rw length-drop (omega arith)) ∙ d in
-    (a ∙ ap (λ (s : List ℕ). i + length s) whole, b ∙ ap (sets m i) whole)
+  module _ (h : i + n ≤ length out) where
+    pub text-room : (textEnd n t (length out) i ≡ i + length t) × (textInto n t out i ≡ sets out i t)
+    unfolding textEnd textInto
+    text-room = let e = le-leb _ _ h in (rw e, rw e)
+
+    pub text-placed : (r : ℕ) (out′ : List ℕ) → Placed out i t out′ r → (r ≡ textEnd n t (length out) i) × (out′ ≡ textInto n t out i)
+    text-placed r out′ p = (p .behind ∙ sym (text-room .0), p .octets ∙ sym (text-room .1))
+
+-- the line of a report whose data d were shown
+pub report-placed : (k : ℕ) (p : Report) (m d : List ℕ) → d ≡ dataOf p m → (out : List ℕ) (i : ℕ) → i + roomOf p m ≤ length out → (r : ℕ) (out′ : List ℕ)
+    → Placed out i (reportLine k p d) out′ r → (r ≡ textEnd (roomOf p m) (lineOf k p m) (length out) i) × (out′ ≡ textInto (roomOf p m) (lineOf k p m) out i)
+report-placed k p m d e out i h r out′ q =
+    text-placed (roomOf p m) (lineOf k p m) out i h r out′ (subst (λ (d : List ℕ). Placed out i (reportLine k p d) out′ r) e q)
 
 -- a report that is no frame has nothing behind its name
 pub no-details : (p : Report) (d : List ℕ) → OneOf (1 ∷ 2 ∷ 3 ∷ 4 ∷ []) (tagOf reports.the-type p) → details p d ≡ []
@@ -108,3 +162,7 @@ no-details Aborted d k = refl
 no-details Long d k = refl
 no-details Short d k = refl
 no-details BadCheck d k = refl
+
+-- nothing put is the empty text
+pub placed-none : (m : List ℕ) (i : ℕ) (t : List ℕ) → t ≡ [] → Placed m i t m i
+placed-none m i t e = record { behind = rw (e, add-zero i); octets = rw e }

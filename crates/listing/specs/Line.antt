@@ -1,32 +1,35 @@
--- A line of the listing. Cited by `put_report`. Assumes nothing.
+-- The lines of a listing. Cited by the functions that put them into a lent buffer, and by the text of a whole listing. Assumes nothing.
+--
+--   heading level          the first line
+--   reportLine k p d       the line of report number k
+--   endLine n before after the last line
 use Prim.Native.Nat.{ℕ, _+_, _*_}
 use mathlib.Core.Bool.{cond}
-use mathlib.Core.List.{List, [], _∷_, _++_}
+use mathlib.Core.List.{List, [], _++_}
 use lib.Dec.{leb}
 use lib.ListN.{length}
 use lib.Seq.{sets}
-use Rattle.listing.specs.Text.{decimal, maxDigits, hex}
+use Rattle.qaft.specs.Limits.{maxData}
 use Rattle.qaft_report.specs.Answer.{reportLength, shown}
 use Rattle.qaft_report.specs.declared.Report.{Report}
 use Rattle.qaft_report.specs.declared.Report.the-variants.{Frame, Aborted, Long, Short, BadCheck}
+use Rattle.text.specs.Text.{ascii, decimal, maxDigits, hex}
 
-abbrev pub newline : List ℕ
-newline = 10 ∷ []
+-- "QAFT listing level L"
+unfoldable pub heading : (level : ℕ) → List ℕ
+heading level = ascii "QAFT listing level " ++ (decimal level ++ ascii "\n")
 
-abbrev pub space : List ℕ
-space = 32 ∷ []
-
--- the name of a report, a space before it: " frame", " aborted", " long", " short", " bad"
-unfoldable pub name : Report → List ℕ
-name (Frame n) = 32 ∷ 102 ∷ 114 ∷ 97 ∷ 109 ∷ 101 ∷ []
-name Aborted = 32 ∷ 97 ∷ 98 ∷ 111 ∷ 114 ∷ 116 ∷ 101 ∷ 100 ∷ []
-name Long = 32 ∷ 108 ∷ 111 ∷ 110 ∷ 103 ∷ []
-name Short = 32 ∷ 115 ∷ 104 ∷ 111 ∷ 114 ∷ 116 ∷ []
-name BadCheck = 32 ∷ 98 ∷ 97 ∷ 100 ∷ []
+-- the name of a report, a space before it
+abbrev pub name : Report → List ℕ
+name (Frame n) = ascii " frame"
+name Aborted = ascii " aborted"
+name Long = ascii " long"
+name Short = ascii " short"
+name BadCheck = ascii " bad"
 
 -- behind the name of a frame: " N HEX", N the number of its data octets d
 unfoldable pub details : Report → (d : List ℕ) → List ℕ
-details (Frame n) d = space ++ (decimal (length d) ++ (space ++ hex d))
+details (Frame n) d = ascii " " ++ (decimal (length d) ++ (ascii " " ++ hex d))
 details Aborted d = []
 details Long d = []
 details Short d = []
@@ -34,19 +37,39 @@ details BadCheck d = []
 
 -- the line of report number k: "1 frame 2 4041"
 unfoldable pub reportLine : (k : ℕ) → Report → (d : List ℕ) → List ℕ
-reportLine k p d = decimal k ++ (name p ++ (details p d ++ newline))
+reportLine k p d = decimal k ++ (name p ++ (details p d ++ ascii "\n"))
 
--- room for every line with n data octets: two numbers, a name, two spaces, the data, the newline
+-- "end R before B after A": the reports, the raw octets before the first flag and after the last
+unfoldable pub endLine : (reports before after : ℕ) → List ℕ
+endLine reports before after =
+    ascii "end " ++ (decimal reports ++ (ascii " before " ++ (decimal before ++ (ascii " after " ++ (decimal after ++ ascii "\n")))))
+
+-- room for the line of every report with n data octets: two numbers, a name, two spaces, the data, the newline
 abbrev pub lineRoom : ℕ → ℕ
 lineRoom n = 2 * n + (2 * maxDigits + 11)
+
+-- that of the longest frame: room for the line of every report
+abbrev pub maxLine : ℕ
+maxLine = lineRoom maxData
+
+-- room for the heading and for the last line: three numbers, and 20 octets beside them
+abbrev pub shortLine : ℕ
+shortLine = 3 * maxDigits + 20
+
+-- a text at index i of an output buffer, and the index behind it; where the buffer has no room for n octets there, nothing
+unfoldable pub textInto : (n : ℕ) (t out : List ℕ) (i : ℕ) → List ℕ
+textInto n t out i = cond (leb (i + n) (length out)) (sets out i t) out
+
+unfoldable pub textEnd : (n : ℕ) (t : List ℕ) (room i : ℕ) → ℕ
+textEnd n t room i = cond (leb (i + n) room) (i + length t) i
 
 -- the data that a report shows of the buffer m
 abbrev pub dataOf : Report → (m : List ℕ) → List ℕ
 dataOf p m = shown m (reportLength p)
 
--- the line at index i of an output buffer, and the index after it; where there is no room for such a line, nothing
-unfoldable pub putReport : (k : ℕ) → Report → (m out : List ℕ) (i : ℕ) → List ℕ
-putReport k p m out i = cond (leb (i + lineRoom (length (dataOf p m))) (length out)) (sets out i (reportLine k p (dataOf p m))) out
+-- the room that is asked for the line of a report, whose data stand in the buffer m, and the line
+abbrev pub roomOf : Report → (m : List ℕ) → ℕ
+roomOf p m = lineRoom (length (dataOf p m))
 
-unfoldable pub putEnd : (k : ℕ) → Report → (m : List ℕ) (room i : ℕ) → ℕ
-putEnd k p m room i = cond (leb (i + lineRoom (length (dataOf p m))) room) (i + length (reportLine k p (dataOf p m))) i
+abbrev pub lineOf : (k : ℕ) → Report → (m : List ℕ) → List ℕ
+lineOf k p m = reportLine k p (dataOf p m)

@@ -1,81 +1,41 @@
-// The text of a listing: the line of a report, put into a lent buffer (specs/Line, specs/Text), and the counts of octets
-// before the first flag and after the last (specs/Counts). What reads and writes stands above.
+// The lines of a listing, each put into a lent buffer (specs/Line): the heading, the line of a report, the last line.
+// What reads and composes stands above.
 ghost use mathlib.Core.Path.{_≡_};
-ghost use Prim.Native.Nat.{ℕ, _+_, _*_, _≤_, _<_};
-ghost use lib.ListN.{length, drop};
-ghost use lib.Seq.{sets};
-ghost use Rattle.listing.specs.Text.{decimal, maxDigits, hexDigit, hex};
-ghost use Rattle.listing.specs.Line.{name, details, reportLine, lineRoom, putReport, putEnd};
-ghost use Rattle.listing.specs.Counts.{none, count, countAll};
+ghost use Prim.Native.Nat.{_+_, _-_, _*_, _≤_};
+ghost use lib.Dec.{leb};
+ghost use lib.ListN.{length, take, drop};
+ghost use Rattle.octets.specs.Put.{putEnd, putInto};
+ghost use Rattle.text.specs.Placed.{Placed};
+ghost use Rattle.text.specs.Text.{maxDigits};
+ghost use Rattle.listing.specs.Names.{nameStart, nameEnd};
+ghost use Rattle.listing.specs.Line.{heading, name, details, reportLine, endLine, lineRoom, shortLine, textInto, textEnd, roomOf, lineOf};
 use qaft_report::Report;
 
-// The most digits of a number.
-const MAX_DIGITS: usize = 20;
+// The line of a report has room here but for its data, which take two octets each.
+const LINE_ROOM: usize = 51;
 
-// An output buffer with this much room takes every line but the data, which take two octets each.
-pub const LINE_ROOM: usize = 51;
+// The line of every report has room here.
+pub const MAX_LINE: usize = 2 * qaft::MAX_DATA + LINE_ROOM;
 
-// Octets before the first flag and after the last, and whether a flag has come.
-pub struct Counts {
-    pub synced: bool,
-    pub before: u64,
-    pub after: u64,
+// The heading and the last line have room here.
+const SHORT_LINE: usize = 80;
+
+// Puts the first line at index `at` of `out`; the index behind it. Where `out` has no room for such a line it stays as it is,
+// and so does the index.
+pub fn put_heading(level: u8, out: &mut [u8], at: usize) -> usize
+    ensures { λ r. ⌜ r ≡ textEnd shortLine (heading level) (length (now (out .entry))) at ⌝ }
+    ensures { λ _. ⌜ now (out .exit) ≡ textInto shortLine (heading level) (now (out .entry)) at ⌝ }
+{
+    if has_room(out.len(), at) {
+        return heading_pieces(level, out, at);
+    }
+    at
 }
 
-impl Counts {
-    pub fn new() -> Self
-        ensures { λ r. ⌜ r ≡ none ⌝ }
-    {
-        Self {
-            synced: false,
-            before: 0,
-            after: 0,
-        }
-    }
-
-    // The counts with the octets of a chunk added.
-    pub fn add(self, chunk: &[u8]) -> Self
-        ensures { λ r. ⌜ r ≡ countAll self (now (chunk .entry)) ⌝ }
-    {
-        let mut c = self;
-        let mut i = 0;
-        while i < chunk.len() {
-            c = c.add_octet(chunk[i]);
-            i += 1;
-        }
-        c
-    }
-
-    fn add_octet(self, x: u8) -> Self
-        ensures { λ r. ⌜ r ≡ count self x ⌝ }
-    {
-        if x == qaft::FLAG {
-            return Counts {
-                synced: true,
-                before: self.before,
-                after: 0,
-            };
-        }
-        if self.synced {
-            return Counts {
-                synced: true,
-                before: self.before,
-                after: std::num::wrapping_add_u64(self.after, 1),
-            };
-        }
-        Counts {
-            synced: false,
-            before: std::num::wrapping_add_u64(self.before, 1),
-            after: self.after,
-        }
-    }
-}
-
-// Puts the line of report number `number` at index `at` of `out`; the index after it. `buffer` is the reader's, which holds
-// the data of a frame. Where `out` has no room for such a line it stays as it is, and so does the index.
+// Puts the line of report number `number`, likewise. `buffer` is the reader's, which holds the data of a frame.
 pub fn put_report(number: u64, report: Report, buffer: &[u8], out: &mut [u8], at: usize) -> usize
-    ensures { λ r. ⌜ r ≡ putEnd number report (now (buffer .entry)) (length (now (out .entry))) at ⌝ }
-    ensures { λ _. ⌜ now (out .exit) ≡ putReport number report (now (buffer .entry)) (now (out .entry)) at ⌝ }
+    ensures { λ r. ⌜ r ≡ textEnd (roomOf report (now (buffer .entry))) (lineOf number report (now (buffer .entry))) (length (now (out .entry))) at ⌝ }
+    ensures { λ _. ⌜ now (out .exit) ≡ textInto (roomOf report (now (buffer .entry))) (lineOf number report (now (buffer .entry))) (now (out .entry)) at ⌝ }
 {
     let octets = report.frame_data(buffer);
     if out.len() < at {
@@ -88,108 +48,119 @@ pub fn put_report(number: u64, report: Report, buffer: &[u8], out: &mut [u8], at
     if (room - LINE_ROOM) / 2 < octets.len() {
         return at;
     }
-    put_line(number, report, octets, out, at)
+    report_pieces(number, report, octets, out, at)
 }
 
-fn put_line(number: u64, report: Report, octets: &[u8], out: &mut [u8], at: usize) -> usize
-    requires { ⌜ at + lineRoom (length (now octets)) ≤ length (now out) ⌝ }
-    ensures { λ r. ⌜ r ≡ at + length (reportLine number report (now (octets .entry))) ⌝ }
-    ensures { λ _. ⌜ now (out .exit) ≡ sets (now (out .entry)) at (reportLine number report (now (octets .entry))) ⌝ }
+// Puts the last line, likewise.
+pub fn put_end(reports: u64, before: u64, after: u64, out: &mut [u8], at: usize) -> usize
+    ensures { λ r. ⌜ r ≡ textEnd shortLine (endLine reports before after) (length (now (out .entry))) at ⌝ }
+    ensures { λ _. ⌜ now (out .exit) ≡ textInto shortLine (endLine reports before after) (now (out .entry)) at ⌝ }
 {
-    let a = put_decimal(number, out, at);
+    if has_room(out.len(), at) {
+        return end_pieces(reports, before, after, out, at);
+    }
+    at
+}
+
+// Whether a buffer of `length` octets has room for a short line from index `at` on.
+fn has_room(length: usize, at: usize) -> bool
+    ensures { λ r. ⌜ r ≡ leb (at + shortLine) length ⌝ }
+{
+    if length < at {
+        return false;
+    }
+    SHORT_LINE <= length - at
+}
+
+fn heading_pieces(level: u8, out: &mut [u8], at: usize) -> usize
+    requires { ⌜ at + shortLine ≤ length (now out) ⌝ }
+    ensures { λ r. ⌜ Placed (now (out .entry)) at (heading level) (now (out .exit)) r ⌝ }
+{
+    let a = octets::put(b"QAFT listing level ", out, at);
+    let b = text::put_decimal(level as u64, out, a);
+    octets::put(b"\n", out, b)
+}
+
+fn end_pieces(reports: u64, before: u64, after: u64, out: &mut [u8], at: usize) -> usize
+    requires { ⌜ at + shortLine ≤ length (now out) ⌝ }
+    ensures { λ r. ⌜ Placed (now (out .entry)) at (endLine reports before after) (now (out .exit)) r ⌝ }
+{
+    let a = octets::put(b"end ", out, at);
+    let b = text::put_decimal(reports, out, a);
+    let c = octets::put(b" before ", out, b);
+    let d = text::put_decimal(before, out, c);
+    let e = octets::put(b" after ", out, d);
+    let f = text::put_decimal(after, out, e);
+    octets::put(b"\n", out, f)
+}
+
+fn report_pieces(number: u64, report: Report, octets: &[u8], out: &mut [u8], at: usize) -> usize
+    requires { ⌜ at + lineRoom (length (now octets)) ≤ length (now out) ⌝ }
+    ensures { λ r. ⌜ Placed (now (out .entry)) at (reportLine number report (now (octets .entry))) (now (out .exit)) r ⌝ }
+{
+    let a = text::put_decimal(number, out, at);
     let b = put_name(report, out, a);
     let c = put_details(report, octets, out, b);
-    put(b"\n", out, c)
+    octets::put(b"\n", out, c)
 }
 
+// The names of the reports are one text, of which one is put.
 fn put_name(report: Report, out: &mut [u8], at: usize) -> usize
-    requires { ⌜ at + 8 ≤ length (now out) ⌝ }
-    ensures { λ r. ⌜ r ≡ at + length (name report) ⌝ }
-    ensures { λ _. ⌜ now (out .exit) ≡ sets (now (out .entry)) at (name report) ⌝ }
+    ensures { λ r. ⌜ r ≡ putEnd (name report) (now (out .entry)) at ⌝ }
+    ensures { λ _. ⌜ now (out .exit) ≡ putInto (name report) (now (out .entry)) at ⌝ }
+{
+    put_part(
+        b" frame aborted long short bad",
+        name_start(report),
+        name_end(report),
+        out,
+        at,
+    )
+}
+
+// The octets from `from` to `end`.
+fn put_part(octets: &[u8], from: usize, end: usize, out: &mut [u8], at: usize) -> usize
+    requires { ⌜ (from ≤ end) × (end ≤ length (now octets)) ⌝ }
+    ensures { λ r. ⌜ r ≡ putEnd (take (end - from) (drop from (now (octets .entry)))) (now (out .entry)) at ⌝ }
+    ensures { λ _. ⌜ now (out .exit) ≡ putInto (take (end - from) (drop from (now (octets .entry)))) (now (out .entry)) at ⌝ }
+{
+    octets::put(&octets[from..end], out, at)
+}
+
+fn name_start(report: Report) -> usize
+    ensures { λ r. ⌜ r ≡ nameStart report ⌝ }
 {
     match report {
-        Report::Frame(_) => put(b" frame", out, at),
-        Report::Aborted => put(b" aborted", out, at),
-        Report::Long => put(b" long", out, at),
-        Report::Short => put(b" short", out, at),
-        Report::BadCheck => put(b" bad", out, at),
+        Report::Frame(_) => 0,
+        Report::Aborted => 6,
+        Report::Long => 14,
+        Report::Short => 19,
+        Report::BadCheck => 25,
+    }
+}
+
+fn name_end(report: Report) -> usize
+    ensures { λ r. ⌜ r ≡ nameEnd report ⌝ }
+{
+    match report {
+        Report::Frame(_) => 6,
+        Report::Aborted => 14,
+        Report::Long => 19,
+        Report::Short => 25,
+        Report::BadCheck => 29,
     }
 }
 
 // Behind a frame's name its length and its data.
 fn put_details(report: Report, octets: &[u8], out: &mut [u8], at: usize) -> usize
     requires { ⌜ at + (2 * length (now octets) + (maxDigits + 2)) ≤ length (now out) ⌝ }
-    ensures { λ r. ⌜ r ≡ at + length (details report (now (octets .entry))) ⌝ }
-    ensures { λ _. ⌜ now (out .exit) ≡ sets (now (out .entry)) at (details report (now (octets .entry))) ⌝ }
+    ensures { λ r. ⌜ Placed (now (out .entry)) at (details report (now (octets .entry))) (now (out .exit)) r ⌝ }
 {
     let Report::Frame(_) = report else {
         return at;
     };
-    let a = put(b" ", out, at);
-    let b = put_decimal(octets.len() as u64, out, a);
-    let c = put(b" ", out, b);
-    put_hex(octets, out, c)
-}
-
-// A number in decimal.
-fn put_decimal(n: u64, out: &mut [u8], at: usize) -> usize
-    requires { ⌜ at + maxDigits ≤ length (now out) ⌝ }
-    ensures { λ r. ⌜ r ≡ at + length (decimal n) ⌝ }
-    ensures { λ _. ⌜ now (out .exit) ≡ sets (now (out .entry)) at (decimal n) ⌝ }
-{
-    let mut digits = [0u8; 20];
-    let from = spell(n, &mut digits);
-    put(&digits[from..], out, at)
-}
-
-// A number's digits at the end of 20 octets; the index of the first.
-fn spell(n: u64, digits: &mut [u8]) -> usize
-    requires { ⌜ length (now digits) ≡ maxDigits ⌝ }
-    ensures { λ r. ⌜ (r ≤ maxDigits) × (drop r (now (digits .exit)) ≡ decimal n) ⌝ }
-{
-    let mut left = n;
-    let mut i = MAX_DIGITS;
-    while 0 < i {
-        i -= 1;
-        digits[i] = 48 + (left % 10) as u8;
-        left = left / 10;
-        if left == 0 {
-            return i;
-        }
-    }
-    i
-}
-
-// Octets in hexadecimal, two digits each.
-fn put_hex(octets: &[u8], out: &mut [u8], at: usize) -> usize
-    requires { ⌜ at + 2 * length (now octets) ≤ length (now out) ⌝ }
-    ensures { λ r. ⌜ r ≡ at + length (hex (now (octets .entry))) ⌝ }
-    ensures { λ _. ⌜ now (out .exit) ≡ sets (now (out .entry)) at (hex (now (octets .entry))) ⌝ }
-{
-    let mut to = at;
-    let mut i = 0;
-    while i < octets.len() {
-        let x = octets[i];
-        out[to] = hex_digit(x / 16);
-        out[to + 1] = hex_digit(x % 16);
-        to += 2;
-        i += 1;
-    }
-    to
-}
-
-fn hex_digit(n: u8) -> u8
-    requires { ⌜ n < 16 ⌝ }
-    ensures { λ r. ⌜ r ≡ hexDigit n ⌝ }
-{
-    if n < 10 { 48 + n } else { 55 + n }
-}
-
-// Octets as they are, from the index `at` on; the index after them.
-fn put(octets: &[u8], out: &mut [u8], at: usize) -> usize
-    requires { ⌜ at + length (now octets) ≤ length (now out) ⌝ }
-    ensures { λ r. ⌜ r ≡ at + length (now (octets .entry)) ⌝ }
-    ensures { λ _. ⌜ now (out .exit) ≡ sets (now (out .entry)) at (now (octets .entry)) ⌝ }
-{
-    octets::put(octets, out, at)
+    let a = octets::put(b" ", out, at);
+    let b = text::put_decimal(octets.len() as u64, out, a);
+    let c = octets::put(b" ", out, b);
+    text::put_hex(octets, out, c)
 }

@@ -9,7 +9,7 @@ use lib.Dec.{eqb}
 use lib.ListN.{length, getD, drop, set, drop-of-length-le}
 use lib.Seq.{sets, drop-cons, getD-set-same, drop-set-lt, lt-length-set}
 use Rattle.common.proofs.Bools.{either}
-use Rattle.listing.specs.Text.{digit, decimalOnto, maxDigits, decimal, hexDigit, hex}
+use Rattle.text.specs.Text.{digit, decimalOnto, maxDigits, decimal, hexDigit, hex}
 
 pub length-hex : (xs : List ℕ) → length (hex xs) ≡ 2 * length xs
 unfolding hex

@@ -1,8 +1,19 @@
--- Numbers and octets as text, ASCII. Cited by the listing's lines. Assumes nothing.
+-- Texts, numbers and octets in ASCII. Cited by the functions that put them into a lent buffer, and by the lines of a listing. Assumes nothing.
+--
+--   ascii t     the octets of a text
+--   decimal n   a number
+--   hex xs      octets, two digits each
 use Prim.Native.Nat.{ℕ, zero, suc, _+_, _/_, _%_}
 use mathlib.Core.Bool.{cond}
+use Prim.Native.Char.{code}
+use Prim.Native.String.{String, [] as []ᵗ, _∷_ as _∷ᵗ_}
 use mathlib.Core.List.{List, [], _∷_}
 use lib.Dec.{ltb, eqb}
+
+-- a text, which has characters below 128 alone
+abbrev pub ascii : String → List ℕ
+ascii []ᵗ = []
+ascii (c ∷ᵗ s) = code c ∷ ascii s
 
 -- the digit of a number below 10
 abbrev pub digit : ℕ → ℕ

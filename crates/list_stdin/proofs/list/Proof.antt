@@ -1,8 +1,15 @@
--- `list_stdin::list` meets its contract. Assumes nothing.
-use borrow.Author.Needs.{needs}
 use borrow.Author.Tests.{lt-ltb, le-ltb}
+use borrow.Author.Needs.{needs}
 use Rattle.list_stdin.proofs.list.Statement.{statement}
 use Rattle.list_stdin.proofs.list.Tie as tie
+use Rattle.list_stdin.proofs.list.Reads as reads
+use Rattle.list_stdin.proofs.list.Lts as lts
+use Rattle.io.proofs.large_buffer.Reads as large-buffer-reads
+use Rattle.list_stdin.proofs.list_chunks.Reads as list-chunks-reads
+use Rattle.list_stdin.proofs.write.Reads as write-reads
+use Rattle.lister.proofs.Lister.new.Reads as new-reads
+use Rattle.lister.proofs.Lister.put_end.Reads as put-end-reads
+use Rattle.listing.proofs.put_heading.Reads as put-heading-reads
 
 returns : tie.Need-returns
 returns c = simp (lt-ltb _ _ (c .if1 .taken))
@@ -13,23 +20,17 @@ large-buffer-requires c κs = search needs
 large-buffer-requires-2 : tie.Need-large-buffer-requires-2
 large-buffer-requires-2 c κs = search needs
 
-slice-aggregate-write-all : tie.Need-slice-aggregate-write-all
-slice-aggregate-write-all c = search needs
+slice-aggregate-put-heading : tie.Need-slice-aggregate-put-heading
+slice-aggregate-put-heading c = search needs
 
-write-all-requires : tie.Need-write-all-requires
-write-all-requires c κs = search needs
+put-heading-requires : tie.Need-put-heading-requires
+put-heading-requires c κs = search needs
 
-print-decimal-requires : tie.Need-print-decimal-requires
-print-decimal-requires c κs = search needs
+slice-aggregate-write : tie.Need-slice-aggregate-write
+slice-aggregate-write c = search needs
 
-slice-aggregate-write-all-2 : tie.Need-slice-aggregate-write-all-2
-slice-aggregate-write-all-2 c = search needs
-
-write-all-requires-2 : tie.Need-write-all-requires-2
-write-all-requires-2 c κs = search needs
-
-fresh-requires : tie.Need-fresh-requires
-fresh-requires c κs = search needs
+write-requires : tie.Need-write-requires
+write-requires c κs = search needs
 
 new-requires : tie.Need-new-requires
 new-requires c κs = search needs
@@ -46,11 +47,20 @@ slice-aggregate-list-chunks-3 c = search needs
 list-chunks-requires : tie.Need-list-chunks-requires
 list-chunks-requires c κs = search needs
 
-print-end-requires : tie.Need-print-end-requires
-print-end-requires c κs = search needs
+slice-aggregate-put-end : tie.Need-slice-aggregate-put-end
+slice-aggregate-put-end c = search needs
+
+put-end-requires : tie.Need-put-end-requires
+put-end-requires c κs = search needs
+
+slice-aggregate-write-2 : tie.Need-slice-aggregate-write-2
+slice-aggregate-write-2 c = search needs
+
+write-requires-2 : tie.Need-write-requires-2
+write-requires-2 c κs = search needs
 
 returns-2 : tie.Need-returns-2
-returns-2 c = simp (le-ltb _ _ (c .before .before .before .before .before .before .before .before .before .before .before .before .before .before .before .before .before .if1 .left))
+returns-2 c = simp (le-ltb _ _ (c .before .before .before .before .before .before .before .before .before .before .before .before .before .before .before .before .before .before .before .before .if1 .left))
 
 pub list-spec : {M : Type 1} → statement M
 list-spec =
@@ -59,16 +69,17 @@ list-spec =
     returns
     large-buffer-requires
     large-buffer-requires-2
-    slice-aggregate-write-all
-    write-all-requires
-    print-decimal-requires
-    slice-aggregate-write-all-2
-    write-all-requires-2
-    fresh-requires
+    slice-aggregate-put-heading
+    put-heading-requires
+    slice-aggregate-write
+    write-requires
     new-requires
     slice-aggregate-list-chunks
     slice-aggregate-list-chunks-2
     slice-aggregate-list-chunks-3
     list-chunks-requires
-    print-end-requires
+    slice-aggregate-put-end
+    put-end-requires
+    slice-aggregate-write-2
+    write-requires-2
     returns-2)

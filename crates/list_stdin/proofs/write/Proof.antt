@@ -1,9 +1,9 @@
--- `list_stdin::flush` meets its contract. Assumes nothing.
+-- `list_stdin::write` meets its contract. Assumes nothing.
 use mathlib.Core.Path.{sym}
 use borrow.Author.Needs.{needs}
 use lib.Seq.{length-take-le}
-use Rattle.list_stdin.proofs.flush.Statement.{statement}
-use Rattle.list_stdin.proofs.flush.Tie as tie
+use Rattle.list_stdin.proofs.write.Statement.{statement}
+use Rattle.list_stdin.proofs.write.Tie as tie
 
 slice-aggregate-write-all : tie.Need-slice-aggregate-write-all
 slice-aggregate-write-all c = sym (length-take-le _ _ (c .before .if1 .taken))
@@ -17,5 +17,5 @@ returns c = search needs
 returns-2 : tie.Need-returns-2
 returns-2 c = search needs
 
-pub flush-spec : {M : Type 1} → statement M
-flush-spec = tie.close (tie.spec slice-aggregate-write-all write-all-requires returns returns-2)
+pub write-spec : {M : Type 1} → statement M
+write-spec = tie.close (tie.spec slice-aggregate-write-all write-all-requires returns returns-2)

@@ -1,116 +1,43 @@
--- `listing::put_name` meets its contract: one call a name. Assumes nothing.
+use Rattle.listing.proofs.Line.{name-within, put-named}
+use native.Mathlib.Omega.{arith}
 use borrow.Author.Needs.{needs}
-use Rattle.listing.proofs.Line.{put-named}
 use Rattle.listing.proofs.put_name.Statement.{statement}
 use Rattle.listing.proofs.put_name.Tie as tie
-use Rattle.listing.specs.Line.{name}
+use Rattle.listing.proofs.put_name.Reads as reads
+use Rattle.listing.proofs.put_name.Lts as lts
+use Rattle.listing.proofs.name_end.Reads as name-end-reads
+use Rattle.listing.proofs.name_start.Reads as name-start-reads
+use Rattle.listing.proofs.put_part.Reads as put-part-reads
 
-enum-told : tie.Need-enum-told
-enum-told c = search needs
+slice-aggregate-put-part : tie.Need-slice-aggregate-put-part
+slice-aggregate-put-part c = search needs
 
-slice-aggregate-put : tie.Need-slice-aggregate-put
-slice-aggregate-put c = search needs
+name-start-requires : tie.Need-name-start-requires
+name-start-requires c κs = search needs
 
-put-requires : tie.Need-put-requires
-put-requires c κs = search needs
+name-end-requires : tie.Need-name-end-requires
+name-end-requires c κs = search needs
 
-enum-told-2 : tie.Need-enum-told-2
-enum-told-2 c = search needs
-
-slice-aggregate-put-2 : tie.Need-slice-aggregate-put-2
-slice-aggregate-put-2 c = search needs
-
-put-requires-2 : tie.Need-put-requires-2
-put-requires-2 c κs = search needs
-
-enum-told-3 : tie.Need-enum-told-3
-enum-told-3 c = search needs
-
-slice-aggregate-put-3 : tie.Need-slice-aggregate-put-3
-slice-aggregate-put-3 c = search needs
-
-put-requires-3 : tie.Need-put-requires-3
-put-requires-3 c κs = search needs
-
-enum-told-4 : tie.Need-enum-told-4
-enum-told-4 c = search needs
-
-slice-aggregate-put-4 : tie.Need-slice-aggregate-put-4
-slice-aggregate-put-4 c = search needs
-
-put-requires-4 : tie.Need-put-requires-4
-put-requires-4 c κs = search needs
-
-enum-told-5 : tie.Need-enum-told-5
-enum-told-5 c = search needs
-
-slice-aggregate-put-5 : tie.Need-slice-aggregate-put-5
-slice-aggregate-put-5 c = search needs
-
-put-requires-5 : tie.Need-put-requires-5
-put-requires-5 c κs = search needs
+put-part-requires : tie.Need-put-part-requires
+put-part-requires c κs =
+    let w = name-within (c .before .before .before .before .before .args .report) in
+    (omega (arith, w .0, c .before .name-end .ensures, c .before .before .name-start .ensures), omega (arith, w .1, c .before .name-end .ensures))
 
 same-length : tie.Need-same-length
 same-length c = search needs
 
 returns : tie.Need-returns
-unfolding name
-returns c = put-named _ _ (c .before .before .before .before .before .enum-told .given .1) _ _ _ _ (c .before .before .put .ensures .0) (c .before .before .put .ensures .1)
-
-same-length-2 : tie.Need-same-length-2
-same-length-2 c = search needs
-
-returns-2 : tie.Need-returns-2
-unfolding name
-returns-2 c = put-named _ _ (c .before .before .before .before .before .enum-told2 .given .1) _ _ _ _ (c .before .before .put2 .ensures .0) (c .before .before .put2 .ensures .1)
-
-same-length-3 : tie.Need-same-length-3
-same-length-3 c = search needs
-
-returns-3 : tie.Need-returns-3
-unfolding name
-returns-3 c = put-named _ _ (c .before .before .before .before .before .enum-told3 .given .1) _ _ _ _ (c .before .before .put3 .ensures .0) (c .before .before .put3 .ensures .1)
-
-same-length-4 : tie.Need-same-length-4
-same-length-4 c = search needs
-
-returns-4 : tie.Need-returns-4
-unfolding name
-returns-4 c = put-named _ _ (c .before .before .before .before .before .enum-told4 .given .1) _ _ _ _ (c .before .before .put4 .ensures .0) (c .before .before .put4 .ensures .1)
-
-same-length-5 : tie.Need-same-length-5
-same-length-5 c = search needs
-
-returns-5 : tie.Need-returns-5
-unfolding name
-returns-5 c = put-named _ _ (c .before .before .before .before .before .enum-told5 .given .1) _ _ _ _ (c .before .before .put5 .ensures .0) (c .before .before .put5 .ensures .1)
+returns c =
+    let e = c .before .before .put-part .ensures in
+    put-named (c .before .before .before .before .before .before .before .before .args .report) _ _ _ _ _ _ (c .before .before .before .before .before .name-start .ensures) (c .before .before .before .before .name-end .ensures) (e .0) (e .1)
 
 pub put-name-spec : {M : Type 1} → statement M
 put-name-spec =
     tie.close
     (tie.spec
-    enum-told
-    slice-aggregate-put
-    put-requires
-    enum-told-2
-    slice-aggregate-put-2
-    put-requires-2
-    enum-told-3
-    slice-aggregate-put-3
-    put-requires-3
-    enum-told-4
-    slice-aggregate-put-4
-    put-requires-4
-    enum-told-5
-    slice-aggregate-put-5
-    put-requires-5
+    slice-aggregate-put-part
+    name-start-requires
+    name-end-requires
+    put-part-requires
     same-length
-    returns
-    same-length-2
-    returns-2
-    same-length-3
-    returns-3
-    same-length-4
-    returns-4
-    same-length-5
-    returns-5)
+    returns)

@@ -1,9 +1,9 @@
--- `listing::put_decimal` meets its contract. Assumes nothing.
+-- `text::put_decimal` meets its contract: the digits that are spelled are put as they are. Assumes nothing.
 use mathlib.Core.Path.{refl}
 use borrow.Author.Needs.{needs}
-use Rattle.listing.proofs.Line.{put-digits}
-use Rattle.listing.proofs.put_decimal.Statement.{statement}
-use Rattle.listing.proofs.put_decimal.Tie as tie
+use Rattle.text.proofs.Putting.{put-digits}
+use Rattle.text.proofs.put_decimal.Statement.{statement}
+use Rattle.text.proofs.put_decimal.Tie as tie
 
 slice-aggregate-spell : tie.Need-slice-aggregate-spell
 slice-aggregate-spell c = search needs
@@ -27,7 +27,10 @@ same-length : tie.Need-same-length
 same-length c = search needs
 
 returns : tie.Need-returns
-returns c = put-digits _ _ (c .before .before .before .before .before .before .before .spell .result) _ _ _ _ _ (c .before .before .before .before .before .before .before .spell .kept .1 .0) (c .before .before .before .before .before .before .before .spell .ensures .1) refl (c .before .before .put .ensures .0) (c .before .before .put .ensures .1)
+returns c =
+    let s = c .before .before .before .before .before .before .before .spell in
+    let e = c .before .before .put .ensures in
+    put-digits _ _ (s .result) _ _ _ _ _ (s .kept .1 .0) (s .ensures .1) refl (e .0) (e .1)
 
 pub put-decimal-spec : {M : Type 1} → statement M
 put-decimal-spec =

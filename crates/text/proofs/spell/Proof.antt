@@ -1,13 +1,13 @@
--- `listing::spell` meets its contract. The loop's invariant: what is left to spell, before the digits that are there, gives the number. Assumes nothing.
+-- `text::spell` meets its contract. The loop's invariant: what is left to spell, before the digits that are there, gives the number. Assumes nothing.
 use Prim.Native.Nat.{_≤_}
 use mathlib.Core.Path.{_≡_, refl, ap, _∙_}
 use native.Mathlib.Omega.{arith}
 use borrow.Author.Needs.{needs}
 use lib.ListN.{length, drop, length-set, drop-of-length-le}
-use Rattle.listing.proofs.Text.{spell-more, spell-last, spell-end}
-use Rattle.listing.proofs.spell.Statement.{statement}
-use Rattle.listing.proofs.spell.Tie as tie
-use Rattle.listing.specs.Text.{decimalOnto, maxDigits, decimal}
+use Rattle.text.proofs.Text.{spell-more, spell-last, spell-end}
+use Rattle.text.proofs.spell.Statement.{statement}
+use Rattle.text.proofs.spell.Tie as tie
+use Rattle.text.specs.Text.{decimalOnto, maxDigits, decimal}
 
 abbrev Inv-loop : tie.InvT-loop
 Inv-loop n digits₀ left₀ i₀ digits left i =

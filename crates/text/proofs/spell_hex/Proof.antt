@@ -1,14 +1,14 @@
--- `listing::put_hex` meets its contract. The loop's invariant: what is left, put down from here, gives the whole. Assumes nothing.
+-- `text::spell_hex` meets its contract. The loop's invariant: what is left, put down from here, gives the whole. Assumes nothing.
 use Prim.Native.Nat.{_+_, _-_, _*_, _≤_}
 use mathlib.Core.Path.{_≡_, refl, sym, ap, _∙_}
 use native.Mathlib.Omega.{arith}
 use borrow.Author.Needs.{needs}
 use lib.ListN.{length, drop, length-set}
 use lib.Seq.{sets}
-use Rattle.listing.proofs.Text.{length-hex, hex-end, hex-next, sets-pair}
-use Rattle.listing.proofs.put_hex.Statement.{statement}
-use Rattle.listing.proofs.put_hex.Tie as tie
-use Rattle.listing.specs.Text.{hex}
+use Rattle.text.proofs.Text.{length-hex, hex-end, hex-next, sets-pair}
+use Rattle.text.proofs.spell_hex.Statement.{statement}
+use Rattle.text.proofs.spell_hex.Tie as tie
+use Rattle.text.specs.Text.{hex}
 
 abbrev Inv-loop : tie.InvT-loop
 Inv-loop octets out₀ at to₀ i₀ out to i =
@@ -70,8 +70,8 @@ returns c =
     let l = c .before .loop in
     (omega (arith, length-hex (s .octets .now)), sym (ap (sets (l .out) (l .to)) (hex-end (s .octets .now) (l .i) (c .loop-test .left))) ∙ l .inv .3)
 
-pub put-hex-spec : {M : Type 1} → statement M
-put-hex-spec =
+pub spell-hex-spec : {M : Type 1} → statement M
+spell-hex-spec =
     tie.close
     (tie.spec
     Inv-loop

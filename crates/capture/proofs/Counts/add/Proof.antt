@@ -1,14 +1,14 @@
--- `listing::Counts::add` meets its contract. The loop's invariant: what is left, counted from here, gives the whole. Assumes nothing.
+-- `capture::Counts::add` meets its contract. The loop's invariant: what is left, counted from here, gives the whole. Assumes nothing.
 use Prim.Native.Nat.{_+_, _-_, _≤_}
 use mathlib.Core.Path.{_≡_, refl, sym, ap, _∙_}
 use native.Mathlib.Omega.{arith}
 use borrow.Author.Needs.{needs}
 use lib.ListN.{length, drop}
-use Rattle.listing.proofs.Counting.{countAll-end, countAll-next}
-use Rattle.listing.proofs.Counts.add.Statement.{statement}
-use Rattle.listing.proofs.Counts.add.Tie as tie
-use Rattle.listing.specs.Counts.{countAll}
-use Rattle.listing.specs.declared.Counts.{Counts}
+use Rattle.capture.proofs.Counting.{countAll-end, countAll-next}
+use Rattle.capture.proofs.Counts.add.Statement.{statement}
+use Rattle.capture.proofs.Counts.add.Tie as tie
+use Rattle.capture.specs.Counts.{countAll}
+use Rattle.capture.specs.declared.Counts.{Counts}
 
 abbrev Inv-loop : tie.InvT-loop
 Inv-loop chunk c₀ i₀ c i = (i ≤ length chunk) × (countAll c (drop i chunk) ≡ countAll c₀ chunk)

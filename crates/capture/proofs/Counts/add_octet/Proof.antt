@@ -1,9 +1,9 @@
--- `listing::Counts::add_octet` meets its contract. Assumes nothing.
+-- `capture::Counts::add_octet` meets its contract. Assumes nothing.
 use borrow.Author.Needs.{needs}
 use borrow.Author.Tests.{eq-eqb, ne-eqb}
-use Rattle.listing.proofs.Counts.add_octet.Statement.{statement}
-use Rattle.listing.proofs.Counts.add_octet.Tie as tie
-use Rattle.listing.specs.Counts.{count}
+use Rattle.capture.proofs.Counts.add_octet.Statement.{statement}
+use Rattle.capture.proofs.Counts.add_octet.Tie as tie
+use Rattle.capture.specs.Counts.{count}
 
 returns : tie.Need-returns
 unfolding count

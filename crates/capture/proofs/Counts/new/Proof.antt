@@ -1,7 +1,7 @@
 -- `Counts::new`: nothing is counted yet. Assumes nothing.
 use mathlib.Core.Path.{refl}
-use Rattle.listing.proofs.Counts.new.Statement.{statement}
-use Rattle.listing.proofs.Counts.new.Tie as tie
+use Rattle.capture.proofs.Counts.new.Statement.{statement}
+use Rattle.capture.proofs.Counts.new.Tie as tie
 
 returns : tie.Need-returns
 returns c = refl

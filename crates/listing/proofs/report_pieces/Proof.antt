@@ -1,0 +1,53 @@
+use Rattle.listing.proofs.Line.{details-room, line-placed}
+use native.Mathlib.Omega.{arith}
+use borrow.Author.Needs.{needs}
+use Rattle.listing.proofs.report_pieces.Statement.{statement}
+use Rattle.listing.proofs.report_pieces.Tie as tie
+use Rattle.listing.proofs.report_pieces.Reads as reads
+use Rattle.listing.proofs.report_pieces.Lts as lts
+use Rattle.listing.proofs.put_details.Reads as put-details-reads
+use Rattle.listing.proofs.put_name.Reads as put-name-reads
+use Rattle.octets.proofs.put.Reads as put-reads
+use Rattle.text.proofs.put_decimal.Reads as put-decimal-reads
+
+put-decimal-requires : tie.Need-put-decimal-requires
+put-decimal-requires c κs = search needs
+
+put-name-requires : tie.Need-put-name-requires
+put-name-requires c κs = search needs
+
+put-details-requires : tie.Need-put-details-requires
+put-details-requires c κs =
+    let s = c .before .before .before .before .before .before .before .before .before .before .before in
+    let e₁ = c .before .before .before .before .before .before .before .put-decimal .ensures in
+    let e₂ = c .before .before .before .put-name .ensures in
+    omega (arith, details-room (s .args .number) (s .args .report) (s .args .octets .now) _ _ _ _ _ _ (s .pre) (e₁ .0) (e₁ .1) (e₂ .0) (e₂ .1))
+
+slice-aggregate-put : tie.Need-slice-aggregate-put
+slice-aggregate-put c = search needs
+
+put-requires : tie.Need-put-requires
+put-requires c κs = search needs
+
+same-length : tie.Need-same-length
+same-length c = search needs
+
+returns : tie.Need-returns
+returns c =
+    let s = c .before .before .before .before .before .before .before .before .before .before .before .before .before .before .before .before .before .before .before in
+    let e₁ = c .before .before .before .before .before .before .before .before .before .before .before .before .before .before .before .put-decimal .ensures in
+    let e₂ = c .before .before .before .before .before .before .before .before .before .before .before .put-name .ensures in
+    let e₄ = c .before .before .put .ensures in
+    line-placed (s .args .number) (s .args .report) (s .args .octets .now) _ _ _ _ _ _ (s .pre) (e₁ .0) (e₁ .1) (e₂ .0) (e₂ .1) _ _ _ _ (c .before .before .before .before .before .before .before .put-details .ensures) (e₄ .0) (e₄ .1)
+
+pub report-pieces-spec : {M : Type 1} → statement M
+report-pieces-spec =
+    tie.close
+    (tie.spec
+    put-decimal-requires
+    put-name-requires
+    put-details-requires
+    slice-aggregate-put
+    put-requires
+    same-length
+    returns)

@@ -1,0 +1,5 @@
+pub mod Events
+pub mod Call
+pub mod Chunks
+pub mod Theorems
+pub mod Worked
