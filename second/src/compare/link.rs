@@ -26,7 +26,7 @@ fn one(rng: &Rng, link: &archive::link::Link, event: &Event, room: usize, tally:
 
 /// Every first octet as a packet of its own, in every state with every queue length, with all numbers.
 fn every_octet(rng: &Rng, tally: &mut Tally) {
-    for shape in SHAPES {
+    for shape in (0..SHAPES).map(make::shape) {
         for (base, expected) in (0..=255).map(|n| (n / 16, n % 16)) {
             let link = make::link(rng, shape, base, expected);
             for first in 0..=255 {
@@ -53,11 +53,11 @@ fn border_events(rng: &Rng) -> Vec<Event> {
 fn grid(rng: &Rng, tally: &mut Tally) {
     let events = border_events(rng);
     for room in ROOMS {
-        for kind in 0..SHAPES.len() + FAULTS {
+        for kind in 0..SHAPES + FAULTS {
             for event in &events {
-                let link = match SHAPES.get(kind) {
-                    Some(&shape) => make::shaped(rng, shape),
-                    None => make::ill_formed(rng, kind - SHAPES.len()),
+                let link = match kind.checked_sub(SHAPES) {
+                    None => make::shaped(rng, make::shape(kind)),
+                    Some(fault) => make::ill_formed(rng, fault),
                 };
                 one(rng, &link, event, room, tally);
             }
