@@ -6,6 +6,7 @@ mod listing;
 mod make;
 mod qaft_write;
 mod reader;
+mod stored;
 mod sums;
 mod tally;
 
@@ -16,7 +17,7 @@ use tally::Tally;
 type Layer = fn(&Rng, u64, &mut Tally);
 
 /// A layer's name, its function, and the numbers that its inputs have to bring up.
-const LAYERS: [(&str, Layer, &[u8]); 11] = [
+const LAYERS: [(&str, Layer, &[u8]); 12] = [
     ("QAFT check", sums::qaft_check, &[]),
     ("QAFT writer", qaft_write::compare, &[0, 1, 2, 3, 6]),
     ("QAFT reader", reader::compare, &reader::NUMBERS),
@@ -27,8 +28,14 @@ const LAYERS: [(&str, Layer, &[u8]); 11] = [
     ("listing, level 0", listing::level_0, &listing::NUMBERS),
     ("listing, level 1", listing::level_1, &listing::NUMBERS),
     ("DLC link, calls", link::calls, &link::NUMBERS),
+    ("DLC link, table", link::table, &link::NUMBERS),
     ("DLC link, two ends", link::two_ends, &link::RUN_NUMBERS),
 ];
+
+/// Writes the stored table of the archive's answers anew.
+pub fn bless() {
+    link::bless(&Rng::new(0));
+}
 
 /// Compares every layer; true where nothing differs and every number came up.
 pub fn all(count: u64, seed: u64) -> bool {

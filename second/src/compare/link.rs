@@ -3,7 +3,10 @@ mod call;
 mod ends;
 mod make;
 mod runs;
+mod table;
+mod worked;
 
+use super::stored;
 use super::tally::Tally;
 use crate::archive;
 use call::{compare, view, Event, Place};
@@ -74,4 +77,15 @@ pub fn calls(rng: &Rng, count: u64, tally: &mut Tally) {
         let link = make::any_link(rng);
         one(rng, &link, &make::event(rng, &link), make::room(rng), tally);
     }
+}
+
+/// The step table and a worked run, against what is stored.
+pub fn table(rng: &Rng, _: u64, tally: &mut Tally) {
+    let text = table::text(rng, tally);
+    stored::compare(table::NAME, &text, tally);
+}
+
+/// Stores what the archive answers now.
+pub fn bless(rng: &Rng) {
+    stored::write(table::NAME, &table::text(rng, &mut Tally::new("table")));
 }

@@ -60,14 +60,29 @@ impl Tally {
         text: impl FnOnce() -> String,
     ) {
         self.inputs += inputs;
+        self.compared("second:  ", ours, archive, text);
+    }
+
+    /// Compares an answer with a stored one; the input is counted where the second program is asked.
+    pub fn stored(&mut self, stored: &str, archive: &str, text: impl FnOnce() -> String) {
+        self.compared("stored:  ", stored, archive, text);
+    }
+
+    fn compared<T: PartialEq + Debug + ?Sized>(
+        &mut self,
+        whose: &str,
+        theirs: &T,
+        archive: &T,
+        text: impl FnOnce() -> String,
+    ) {
         self.comparisons += 1;
-        if ours == archive {
+        if theirs == archive {
             return;
         }
         self.differences += 1;
         if self.differences <= SHOWN {
             println!("DIFFERENCE in {}: {}", self.name, text());
-            println!("  second:  {ours:X?}\n  archive: {archive:X?}");
+            println!("  {whose}{theirs:X?}\n  archive: {archive:X?}");
         }
     }
 
