@@ -84,7 +84,7 @@ fn odd_links() -> Vec<Named<Link>> {
 }
 
 fn packet(kind: u8, number: u8, payload: usize) -> Event {
-    Event::Arrival([&[kind | number % 16], &vec![b'x'; payload][..]].concat())
+    Event::Arrival([&[kind | (number % 16)], &vec![b'x'; payload][..]].concat())
 }
 
 /// The events in the order of the step table's rows; at last the packet that is none.
