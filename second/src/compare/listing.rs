@@ -7,8 +7,13 @@ use second::rng::Rng;
 use second::{listing, qaft};
 use std::fs::File;
 use std::io::{self, Write};
+use std::os::fd::OwnedFd;
+use std::os::unix::net::UnixDatagram;
 use std::path::{Path, PathBuf};
 use std::process::{Command, Stdio};
+
+/// How many reads the longest capture takes.
+const READS: usize = 2_500;
 
 fn program(level: u8) -> PathBuf {
     Path::new(env!("CARGO_MANIFEST_DIR")).join(format!("../target/bin/list_level{level}"))
@@ -112,6 +117,17 @@ fn by_pipe(level: u8, portions: &[Vec<u8>]) -> (bool, String) {
     })
 }
 
+/// A capture in datagrams: a read takes exactly one, and an empty one is the end.
+fn by_datagrams(level: u8, portions: &[Vec<u8>]) -> (bool, String) {
+    let (ours, theirs) = UnixDatagram::pair().expect("two sockets");
+    printed(level, OwnedFd::from(theirs), move || {
+        for part in portions.iter().filter(|part| !part.is_empty()) {
+            ours.send(part)?;
+        }
+        ours.send(&[]).map(drop)
+    })
+}
+
 /// Compares what a program has printed of a capture.
 fn one(level: u8, pieces: u64, capture: &[u8], archive: (bool, String), tally: &mut Tally) {
     for report in qaft::read_line(capture).reports {
@@ -136,6 +152,16 @@ fn examples(level: u8, tally: &mut Tally) {
     }
 }
 
+/// A capture that takes a program very many reads.
+fn many_reads(level: u8, rng: &Rng, tally: &mut Tally) {
+    let portions: Vec<_> = std::iter::repeat_with(|| piece(rng))
+        .filter(|piece| !piece.is_empty())
+        .take(READS)
+        .collect();
+    let archive = by_datagrams(level, &portions);
+    one(level, READS as u64, &portions.concat(), archive, tally);
+}
+
 pub const NUMBERS: [u8; 5] = [10, 11, 12, 13, 14];
 
 /// The paper's number for a report.
@@ -151,6 +177,7 @@ fn number(report: &Report) -> u8 {
 
 fn compare(level: u8, rng: &Rng, count: u64, tally: &mut Tally) {
     examples(level, tally);
+    many_reads(level, rng, tally);
     let (pieces, capture) = each_segment();
     let archive = by_pipe(level, std::slice::from_ref(&capture));
     one(level, pieces, &capture, archive, tally);
