@@ -1,123 +1,23 @@
 //! The link's step table as the archive answers it, in text: every event at a link of every state, every control octet,
 //! each way of not being well formed, each refusal with too small a reply buffer. It is stored in tables/dlc.txt.
+mod rows;
+
 use super::super::tally::Tally;
 use super::call::{compare, view, Event, Given, Place};
 use super::worked::worked_run;
-use crate::archive::link::{fresh, Link, Queue, Queued};
-use second::link::{PAYLOAD, QUEUE, REPLY};
+use crate::archive::link::Link;
+use rows::{events, links, odd_links, packet, STATES};
+use second::link::{PAYLOAD, REPLY};
 use second::rng::Rng;
-use std::array::from_fn;
 
-/// The numbers of an open link of the table, so that both restart after a step or two.
-const OLDEST: u8 = 14;
-const AWAITED: u8 = 15;
+const HEADING: &str = "\
+The DLC link's step table as the archive of proved code answers it: written by `second/run --bless`, compared by every
+second/run. Events stand in the order of the step table's rows, below each the links in the order of its columns. A line says
+the number answered; the link afterwards, where the event is no refusal; what goes up; the packets sent. A refusal leaves the
+link as it was, and the reply buffer. The oldest number is that of the oldest payload, or the next to be given.
+";
 
-/// How many payloads are queued at the DLDWAIT of the table whose queue is not full.
-const SOME: usize = 3;
-
-const STATES: [&str; 4] = ["DLIDLE", "DLRESET", "DLDATA", "DLDWAIT"];
-
-/// A link with `count` payloads of 0, 1, 2 .. octets, which are letters; an open one with the table's numbers.
-fn link(state: u8, count: usize) -> Link {
-    let queued = |i: usize| Queued {
-        length: i,
-        octets: from_fn(|k| if k < i { b'A' + k as u8 } else { 0 }),
-    };
-    let opened = state >= 2;
-    Link {
-        state,
-        queue: Queue {
-            count,
-            slots: from_fn(|i| queued(if i < count { i } else { 0 })),
-        },
-        base: if opened { OLDEST } else { 0 },
-        expected: if opened { AWAITED } else { 0 },
-    }
-}
-
-type Named<T> = (String, T);
-
-/// A link in each state, and one with a full queue.
-fn links() -> Vec<Named<Link>> {
-    vec![
-        ("DLIDLE".into(), fresh()),
-        ("DLRESET".into(), link(1, 0)),
-        ("DLDATA".into(), link(2, 0)),
-        ("DLDWAIT".into(), link(3, SOME)),
-        ("DLDWAIT, full".into(), link(3, QUEUE)),
-    ]
-}
-
-/// A value for each way of not being well formed; and last one that is, whose free slots hold anything.
-fn odd_links() -> Vec<Named<Link>> {
-    let with = |name: &str, mut link: Link, change: fn(&mut Link)| {
-        change(&mut link);
-        (name.to_string(), link)
-    };
-    let mut odd = vec![
-        with("state 4", link(2, 0), |l| l.state = 4),
-        with("a payload more than the queue holds", link(3, QUEUE), |l| {
-            l.queue.count += 1
-        }),
-        with("a queued payload of 257 octets", link(3, SOME), |l| {
-            l.queue.slots[1].length = PAYLOAD + 1
-        }),
-        with("oldest 16", link(2, 0), |l| l.base = 16),
-        with("awaited 16", link(2, 0), |l| l.expected = 16),
-        with("DLDWAIT without a queue", link(3, 0), |_| {}),
-        with("DLDATA with a queue", link(2, SOME), |_| {}),
-    ];
-    for (state, name) in STATES.iter().enumerate().take(2) {
-        let closed = |count| link(state as u8, count);
-        odd.extend([
-            with(&format!("{name} with a queue"), closed(SOME), |_| {}),
-            with(&format!("{name} with oldest 1"), closed(0), |l| l.base = 1),
-            with(&format!("{name} with awaited 1"), closed(0), |l| {
-                l.expected = 1
-            }),
-        ]);
-    }
-    odd.push(with("DLDWAIT, 257 in a free slot", link(3, SOME), |l| {
-        l.queue.slots[SOME].length = PAYLOAD + 1
-    }));
-    odd
-}
-
-fn packet(kind: u8, number: u8, payload: usize) -> Event {
-    Event::Arrival([&[kind | (number % 16)], &vec![b'x'; payload][..]].concat())
-}
-
-/// The events in the order of the step table's rows; at last the packet that is none.
-fn events() -> Vec<Named<Event>> {
-    let mut events = vec![
-        ("RESET".into(), packet(0x10, 0, 0)),
-        ("start".into(), Event::Start),
-        ("RESET_ACK".into(), packet(0x20, 0, 0)),
-    ];
-    for (number, size) in [
-        (AWAITED, 3),
-        (AWAITED, 0),
-        (AWAITED, PAYLOAD),
-        (AWAITED, PAYLOAD + 1),
-        (AWAITED - 1, 3),
-        (AWAITED + 1, 3),
-    ] {
-        let name = format!("DATA {} with {size} octets", number % 16);
-        events.push((name, packet(0x40, number, size)));
-    }
-    for distance in [0, 1, SOME, SOME + 1, QUEUE, QUEUE + 1] {
-        let number = (OLDEST + distance as u8) % 16;
-        let name = format!("DACK {number}, distance {distance}");
-        events.push((name, packet(0x50, number, 0)));
-    }
-    events.push(("timer".into(), Event::Timer));
-    for size in [0, PAYLOAD, PAYLOAD + 1] {
-        let name = format!("payload of {size} octets");
-        events.push((name, Event::Payload(vec![b'x'; size])));
-    }
-    events.push(("empty packet".into(), Event::Arrival(Vec::new())));
-    events
-}
+pub const NAME: &str = "dlc.txt";
 
 /// At most eight octets, and dots where there are more.
 fn octets(octets: &[u8]) -> String {
@@ -144,7 +44,7 @@ fn outcome(before: &Link, event: &Event, given: &Given) -> String {
         text += "; upper layer reset";
     }
     if let (true, Event::Arrival(packet)) = (answer.delivered != 0, event) {
-        text += &format!("; up [{}]", octets(&packet[1..]));
+        text += &format!("; up [{}]", octets(packet.get(1..).unwrap_or_default()));
     }
     if answer.sent > 0 {
         let packets: Vec<_> = given.packets.iter().map(|p| octets(p)).collect();
@@ -244,15 +144,6 @@ impl Table<'_> {
         }
     }
 }
-
-const HEADING: &str = "\
-The DLC link's step table as the archive of proved code answers it: written by `second/run --bless`, compared by every
-second/run. Events stand in the order of the step table's rows, below each the links in the order of its columns. A line says
-the number answered; the link afterwards, where the event is no refusal; what goes up; the packets sent. A refusal leaves the
-link as it was, and the reply buffer. The oldest number is that of the oldest payload, or the next to be given.
-";
-
-pub const NAME: &str = "dlc.txt";
 
 /// The whole text, by the archive's answers; the second program is asked beside it.
 pub fn text(rng: &Rng, tally: &mut Tally) -> String {

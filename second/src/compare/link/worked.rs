@@ -69,9 +69,8 @@ fn script() -> Vec<Step> {
 fn act(ends: &mut Ends, act: Act) -> Option<u8> {
     match act {
         Act::Payload(size, room) => {
-            let mut payload = (ends.ends[LEFT].accepted.len() as u32)
-                .to_be_bytes()
-                .to_vec();
+            // it begins with how many came before, so that no two are the same
+            let mut payload = ends.ends[LEFT].accepted.len().to_le_bytes().to_vec();
             payload.resize(size, 0);
             Some(ends.call(LEFT, Event::Payload(payload), room))
         }
@@ -98,7 +97,7 @@ pub fn worked_run(rng: &Rng, tally: &mut Tally) -> String {
     ends.open(LEFT);
     let script = script();
     let events: usize = script.iter().map(|(_, times, _)| times).sum();
-    let mut text = format!("\n\nA run of {events} events at two open ends, those of the left end and on its line; numbers in order\n\n");
+    let mut text = format!("\n\nA run of {events} events at two open ends, with the numbers answered. Payloads and timers are the left end's\n\n");
     for (name, times, what) in script {
         let numbers: Vec<_> = (0..times)
             .filter_map(|_| act(&mut ends, what))
@@ -107,22 +106,17 @@ pub fn worked_run(rng: &Rng, tally: &mut Tally) -> String {
         text += format!("  {name:<32} {}", numbers.join(" ")).trim_end();
         text.push('\n');
     }
-    let [left, right] = &ends.ends;
-    text += &format!(
-        "\naccepted {}, delivered {}, DATA sent {}",
-        left.accepted.len(),
-        right.delivered,
-        left.sent
-    );
-    text += &format!(
-        ", lost {}; oldest {}, awaited {}\n",
-        left.lost(),
-        left.archive.base,
-        right.archive.expected
-    );
-    let counts = [left.accepted.len(), right.delivered, left.sent, left.lost()];
-    ends.tally
-        .claim(COUNTS, counts == [3 * QUEUE, 3 * QUEUE, 5 * QUEUE - 4, 2]);
+    text += &came_to(&mut ends);
     ends.settle();
     text
+}
+
+fn came_to(ends: &mut Ends) -> String {
+    let [left, right] = &ends.ends;
+    let counts = [left.accepted.len(), right.delivered, left.sent, left.lost()];
+    let [accepted, delivered, sent, lost] = counts;
+    let (oldest, awaited) = (left.archive.base, right.archive.expected);
+    let holds = counts == [3 * QUEUE, 3 * QUEUE, 5 * QUEUE - 4, 2];
+    ends.tally.claim(COUNTS, holds);
+    format!("\naccepted {accepted}, delivered {delivered}, DATA sent {sent}, lost {lost}; oldest {oldest}, awaited {awaited}\n")
 }
