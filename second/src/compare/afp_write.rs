@@ -141,7 +141,7 @@ impl Input {
     }
 }
 
-type Writer = fn(u8, &[u8], usize, &[u8], &[u8], &mut [u8]) -> second::Written;
+pub type Writer = fn(u8, &[u8], usize, &[u8], &[u8], &mut [u8]) -> second::Written;
 
 /// Every pair of octets as a lone ID, and behind "A-".
 fn each_id(rng: &Rng, tally: &mut Tally) {

@@ -3,7 +3,10 @@ mod call;
 mod ends;
 mod make;
 mod runs;
+mod table;
+mod worked;
 
+use super::stored;
 use super::tally::Tally;
 use crate::archive;
 use call::{compare, view, Event, Place};
@@ -26,7 +29,7 @@ fn one(rng: &Rng, link: &archive::link::Link, event: &Event, room: usize, tally:
 
 /// Every first octet as a packet of its own, in every state with every queue length, with all numbers.
 fn every_octet(rng: &Rng, tally: &mut Tally) {
-    for shape in SHAPES {
+    for shape in (0..SHAPES).map(make::shape) {
         for (base, expected) in (0..=255).map(|n| (n / 16, n % 16)) {
             let link = make::link(rng, shape, base, expected);
             for first in 0..=255 {
@@ -53,11 +56,11 @@ fn border_events(rng: &Rng) -> Vec<Event> {
 fn grid(rng: &Rng, tally: &mut Tally) {
     let events = border_events(rng);
     for room in ROOMS {
-        for kind in 0..SHAPES.len() + FAULTS {
+        for kind in 0..SHAPES + FAULTS {
             for event in &events {
-                let link = match SHAPES.get(kind) {
-                    Some(&shape) => make::shaped(rng, shape),
-                    None => make::ill_formed(rng, kind - SHAPES.len()),
+                let link = match kind.checked_sub(SHAPES) {
+                    None => make::shaped(rng, make::shape(kind)),
+                    Some(fault) => make::ill_formed(rng, fault),
                 };
                 one(rng, &link, event, room, tally);
             }
@@ -74,4 +77,15 @@ pub fn calls(rng: &Rng, count: u64, tally: &mut Tally) {
         let link = make::any_link(rng);
         one(rng, &link, &make::event(rng, &link), make::room(rng), tally);
     }
+}
+
+/// The step table and a worked run, against what is stored.
+pub fn table(rng: &Rng, _: u64, tally: &mut Tally) {
+    let text = table::text(rng, tally);
+    stored::compare(table::NAME, &text, tally);
+}
+
+/// Stores what the archive answers now.
+pub fn bless(rng: &Rng) {
+    stored::write(table::NAME, &table::text(rng, &mut Tally::new("table")));
 }

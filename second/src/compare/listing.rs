@@ -5,9 +5,15 @@ use super::tally::{hex, Tally};
 use second::qaft::{body, Report, FLAG};
 use second::rng::Rng;
 use second::{listing, qaft};
-use std::io::Write;
+use std::fs::File;
+use std::io::{self, Write};
+use std::os::fd::OwnedFd;
+use std::os::unix::net::UnixDatagram;
 use std::path::{Path, PathBuf};
 use std::process::{Command, Stdio};
+
+/// How many reads the longest capture takes.
+const READS: usize = 2_500;
 
 fn program(level: u8) -> PathBuf {
     Path::new(env!("CARGO_MANIFEST_DIR")).join(format!("../target/bin/list_level{level}"))
@@ -78,41 +84,82 @@ fn each_segment() -> (u64, Vec<u8>) {
     (pieces, capture)
 }
 
-/// What the program prints of a capture that is written to it portion by portion, and whether its exit status is 0.
-fn printed(program: &Path, portions: &[Vec<u8>]) -> std::io::Result<(bool, String)> {
-    let mut child = Command::new(program)
-        .stdin(Stdio::piped())
+/// What the program prints of what stands at its standard input, and whether its exit status is 0. The capture is fed to it
+/// beside: a long one and its listing are more than pipes hold. Where feeding fails, the listing shows it.
+fn printed(
+    level: u8,
+    stdin: impl Into<Stdio>,
+    feed: impl FnOnce() -> io::Result<()> + Send,
+) -> (bool, String) {
+    let program = program(level);
+    let child = Command::new(&program)
+        .stdin(stdin)
         .stdout(Stdio::piped())
-        .spawn()?;
-    let mut stdin = child.stdin.take().expect("it was asked for");
-    // writing beside reading: a long capture and its listing are more than the pipes hold
-    let output = std::thread::scope(|scope| {
-        scope.spawn(move || {
-            portions
-                .iter()
-                .try_for_each(|portion| stdin.write_all(portion))
+        .spawn()
+        .unwrap_or_else(|error| {
+            let name = program.display();
+            panic!("{name}: {error}; `rt check list_level{level}` builds it")
         });
-        child.wait_with_output()
-    })?;
+    let output = std::thread::scope(|scope| {
+        scope.spawn(feed);
+        child.wait_with_output().expect("what a program prints")
+    });
     // octets that are no text show as a mark, which the second program never prints
     let text = String::from_utf8_lossy(&output.stdout).into_owned();
-    Ok((output.status.success(), text))
+    (output.status.success(), text)
 }
 
-fn one(level: u8, pieces: u64, portions: &[Vec<u8>], tally: &mut Tally) {
-    let program = program(level);
-    let capture = portions.concat();
-    for report in qaft::read_line(&capture).reports {
+/// A capture through a pipe, portion by portion; a read may take several of them.
+fn by_pipe(level: u8, portions: &[Vec<u8>]) -> (bool, String) {
+    let (reader, mut writer) = io::pipe().expect("a pipe");
+    printed(level, reader, move || {
+        portions.iter().try_for_each(|part| writer.write_all(part))
+    })
+}
+
+/// A capture in datagrams: a read takes exactly one, and an empty one is the end.
+fn by_datagrams(level: u8, portions: &[Vec<u8>]) -> (bool, String) {
+    let (ours, theirs) = UnixDatagram::pair().expect("two sockets");
+    printed(level, OwnedFd::from(theirs), move || {
+        for part in portions.iter().filter(|part| !part.is_empty()) {
+            ours.send(part)?;
+        }
+        ours.send(&[]).map(drop)
+    })
+}
+
+/// Compares what a program has printed of a capture.
+fn one(level: u8, pieces: u64, capture: &[u8], archive: (bool, String), tally: &mut Tally) {
+    for report in qaft::read_line(capture).reports {
         tally.number(number(&report));
     }
-    let ours = (true, listing::listing(level, &capture));
-    let archive = printed(&program, portions).unwrap_or_else(|error| {
-        panic!(
-            "{}: {error}; `rt check list_level{level}` builds it",
-            program.display()
-        )
-    });
-    tally.inputs(pieces, &ours, &archive, || hex(&capture));
+    let ours = (true, listing::listing(level, capture));
+    tally.inputs(pieces, &ours, &archive, || hex(capture));
+}
+
+/// The captures of examples/, from their files.
+fn examples(level: u8, tally: &mut Tally) {
+    let folder = concat!(env!("CARGO_MANIFEST_DIR"), "/../examples");
+    for entry in std::fs::read_dir(folder).expect("examples/") {
+        let path = entry.expect("an entry").path();
+        if path.extension().is_some_and(|e| e == "cap") {
+            let capture = std::fs::read(&path).expect("a capture");
+            let file = File::open(&path).expect("a capture");
+            let archive = printed(level, file, || Ok(()));
+            one(level, 1, &capture, archive, tally);
+            tally.count("captures of examples/", 1);
+        }
+    }
+}
+
+/// A capture that takes a program very many reads.
+fn many_reads(level: u8, rng: &Rng, tally: &mut Tally) {
+    let portions: Vec<_> = std::iter::repeat_with(|| piece(rng))
+        .filter(|piece| !piece.is_empty())
+        .take(READS)
+        .collect();
+    let archive = by_datagrams(level, &portions);
+    one(level, READS as u64, &portions.concat(), archive, tally);
 }
 
 pub const NUMBERS: [u8; 5] = [10, 11, 12, 13, 14];
@@ -129,8 +176,11 @@ fn number(report: &Report) -> u8 {
 }
 
 fn compare(level: u8, rng: &Rng, count: u64, tally: &mut Tally) {
+    examples(level, tally);
+    many_reads(level, rng, tally);
     let (pieces, capture) = each_segment();
-    one(level, pieces, &[capture], tally);
+    let archive = by_pipe(level, std::slice::from_ref(&capture));
+    one(level, pieces, &capture, archive, tally);
     let mut left = count;
     while left > 0 {
         let most = match rng.below(200) {
@@ -139,7 +189,9 @@ fn compare(level: u8, rng: &Rng, count: u64, tally: &mut Tally) {
             _ => rng.pick(&[0, 1, 2, 3, 5, 10, 50, 130]),
         };
         let pieces = left.min(most);
-        one(level, pieces, &portions(rng, pieces), tally);
+        let portions = portions(rng, pieces);
+        let archive = by_pipe(level, &portions);
+        one(level, pieces, &portions.concat(), archive, tally);
         left -= pieces;
     }
 }

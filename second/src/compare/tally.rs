@@ -3,8 +3,11 @@ use std::collections::BTreeMap;
 use std::fmt::{Debug, Write};
 use std::time::Instant;
 
-/// How many differences of a layer are shown in full.
+/// How many differences of a layer are shown.
 const SHOWN: u64 = 5;
+
+/// How many characters of a text are shown on both sides of where it begins to differ: a link has some 8,000.
+const AROUND: usize = 800;
 
 /// With fewer random inputs than this a number may well not come up.
 const ENOUGH: u64 = 20_000;
@@ -60,14 +63,33 @@ impl Tally {
         text: impl FnOnce() -> String,
     ) {
         self.inputs += inputs;
+        self.compared("second:  ", ours, archive, text);
+    }
+
+    /// Compares an answer with a stored one; the input is counted where the second program is asked.
+    pub fn stored(&mut self, stored: &str, archive: &str, text: impl FnOnce() -> String) {
+        self.compared("stored:  ", stored, archive, text);
+    }
+
+    fn compared<T: PartialEq + Debug + ?Sized>(
+        &mut self,
+        whose: &str,
+        theirs: &T,
+        archive: &T,
+        text: impl FnOnce() -> String,
+    ) {
         self.comparisons += 1;
-        if ours == archive {
+        if theirs == archive {
             return;
         }
         self.differences += 1;
         if self.differences <= SHOWN {
-            println!("DIFFERENCE in {}: {}", self.name, text());
-            println!("  second:  {ours:X?}\n  archive: {archive:X?}");
+            let (theirs, archive) = (format!("{theirs:X?}"), format!("{archive:X?}"));
+            let pairs = theirs.chars().zip(archive.chars());
+            let place = pairs.take_while(|(x, y)| x == y).count();
+            println!("DIFFERENCE in {}: {}", self.name, near(&text(), 0));
+            println!("  {whose}{}", near(&theirs, place));
+            println!("  archive: {}", near(&archive, place));
         }
     }
 
@@ -135,6 +157,15 @@ impl Tally {
         let claims = self.finish_claims(count);
         claims && self.differences == 0 && (missing.is_empty() || count < ENOUGH)
     }
+}
+
+/// A text, or what stands around a place of a long one.
+fn near(text: &str, place: usize) -> String {
+    let start = place.saturating_sub(AROUND);
+    let shown: String = text.chars().skip(start).take(2 * AROUND).collect();
+    let cut = |on: bool| if on { ".." } else { "" };
+    let behind = text.chars().count() > start + 2 * AROUND;
+    format!("{}{shown}{}", cut(start > 0), cut(behind))
 }
 
 /// Octets on both sides of an out buffer that no call may touch.

@@ -24,7 +24,7 @@ impl Debug for Event {
 }
 
 /// What the second program calls a link value of the header, free slots left out; nothing for a state over 3, which it has
-/// no name for. A count over 7 and a length over 256 are cut to the first wrong one, and are its own to judge.
+/// no name for. A count and a length over their limits are cut to the first wrong one, and are its own to judge.
 pub fn view(link: &archive::Link) -> Option<link::Link> {
     let mode = match link.state {
         0 => Mode::Idle,

@@ -1,16 +1,18 @@
 //! Two ends and the lines between them, side by side in both programs. In most runs lines only lose packets, and then the
 //! paper's demand 3 is checked of the archive: what is delivered is an initial part of what was accepted at the other end
-//! since both were opened; where timers wait for a drained line, DATA sent are at most those accepted and seven for each
-//! lost packet. In the other runs packets are also invented, changed and repeated and ends replaced; they are compared alone.
+//! since both were opened; where timers wait for a drained line, DATA sent are at most those accepted and a whole queue for
+//! each lost packet. In the other runs packets are also invented, changed and repeated and ends replaced; they are compared
+//! alone. A line takes any number of packets, and none leaves it uncounted.
 use super::super::tally::Tally;
 use super::call::{compare, refused, view, Event, Given, Place};
 use crate::archive::link as archive;
-use second::link::{self, REPLY};
+use second::link::{self, QUEUE, REPLY};
 use second::rng::Rng;
 use std::collections::VecDeque;
 
 const INITIAL_PART: &str = "delivered is an initial part of accepted";
 const BOUND: &str = "DATA sent are within the bound";
+const COUNTED: &str = "each DATA sent has arrived, was lost or is on its way";
 const ALL: &str = "all accepted is delivered once nothing is lost";
 const FORMED: &str = "27 answers no link of a run";
 const RESTARTS: &str = "number restarts";
@@ -26,8 +28,24 @@ pub struct End {
     pub delivered: usize,
     /// DATA sent by this end since then, repeats too
     pub sent: usize,
-    /// packets lost since then: DATA of this end, DACKs to it
-    pub lost: usize,
+    /// DATA of this end that has arrived at the other since then, repeats too
+    pub arrived: usize,
+    /// packets lost since then: DATA of this end, and DACKs to it
+    pub lost_data: usize,
+    pub lost_dacks: usize,
+}
+
+impl End {
+    pub fn lost(&self) -> usize {
+        self.lost_data + self.lost_dacks
+    }
+
+    /// Forgets what has been counted since the ends were opened.
+    fn recount(&mut self) {
+        self.accepted.clear();
+        (self.delivered, self.sent, self.arrived) = (0, 0, 0);
+        (self.lost_data, self.lost_dacks) = (0, 0);
+    }
 }
 
 pub struct Ends<'a> {
@@ -38,8 +56,8 @@ pub struct Ends<'a> {
     pub claimed: bool,
     /// whether each end's timer waits until none of its DATA and no DACK to it is on the line
     pub waits: bool,
-    /// a packet is lost once in so many steps
-    pub loss: usize,
+    /// a packet is lost once in so many steps, or never by itself
+    pub loss: Option<usize>,
     pub calls: u64,
 }
 
@@ -52,7 +70,9 @@ pub fn fresh_end() -> End {
         accepted: Vec::new(),
         delivered: 0,
         sent: 0,
-        lost: 0,
+        arrived: 0,
+        lost_data: 0,
+        lost_dacks: 0,
     }
 }
 
@@ -114,27 +134,50 @@ impl Ends<'_> {
     /// Counts the DATA that a call has sent, and looks whether there are too many.
     fn check_bound(&mut self, end: usize, packets: &[Vec<u8>]) {
         let data = packets.iter().filter(|packet| is_data(packet)).count();
+        self.tally.count("DATA sent", data as u64);
         let end = &mut self.ends[end];
         end.sent += data;
         if self.claimed && self.waits && data > 0 {
-            let most = end.accepted.len() + 7 * end.lost;
+            let most = end.accepted.len() + QUEUE * end.lost();
             self.tally.claim(BOUND, end.sent <= most);
         }
     }
 
-    /// The front packet of an end's line arrives; with too small a reply buffer it is lost.
-    pub fn arrival(&mut self, end: usize, room: usize) {
+    /// The front packet of an end's line arrives, and is answered with a number; with too small a reply buffer it is lost.
+    pub fn arrival(&mut self, end: usize, room: usize) -> Option<u8> {
         if let Some(packet) = self.ends[end].line.pop_front() {
-            if self.call(end, Event::Arrival(packet.clone()), room) == 26 {
+            let number = self.call(end, Event::Arrival(packet.clone()), room);
+            if number == 26 {
                 self.count_lost(end, &packet);
+            } else {
+                self.ends[1 - end].arrived += usize::from(is_data(&packet));
             }
+            return Some(number);
         }
+        None
+    }
+
+    /// The packet at an index of an end's line is lost, where there is one.
+    pub fn lose_at(&mut self, end: usize, index: usize) {
+        if let Some(packet) = self.ends[end].line.remove(index) {
+            self.count_lost(end, &packet);
+            self.tally.count("lost on the line", 1);
+        }
+    }
+
+    /// Whether no DATA went uncounted: those that an end sent have arrived, were lost, or are on the line.
+    fn check_counted(&mut self, end: usize) {
+        let line = &self.ends[1 - end].line;
+        let on_the_way = line.iter().filter(|packet| is_data(packet)).count();
+        let end = &self.ends[end];
+        let counted = end.arrived + end.lost_data + on_the_way;
+        self.tally.claim(COUNTED, end.sent == counted);
     }
 
     /// A packet on its way to an end is lost: DATA counts for its sender, a DACK for the end it was sent to.
     fn count_lost(&mut self, end: usize, packet: &[u8]) {
-        self.ends[1 - end].lost += usize::from(is_data(packet));
-        self.ends[end].lost += usize::from(is_dack(packet));
+        self.ends[1 - end].lost_data += usize::from(is_data(packet));
+        self.ends[end].lost_dacks += usize::from(is_dack(packet));
     }
 
     /// Arrivals until both lines are empty, or for so many calls as can't be needed.
@@ -166,25 +209,21 @@ impl Ends<'_> {
             self.arrival(end, REPLY);
         }
         self.drain();
-        for end in &mut self.ends {
-            end.accepted.clear();
-            (end.delivered, end.sent, end.lost) = (0, 0, 0);
-        }
+        self.ends.iter_mut().for_each(End::recount);
         self.tally.count("openings", 1);
     }
 
     /// Once in a while a packet of an end's line is lost.
     pub fn lose(&mut self, end: usize) {
-        let line = &mut self.ends[end].line;
-        if !line.is_empty() && self.rng.once_in(self.loss) {
-            let packet = line.remove(self.rng.below(line.len()));
-            self.count_lost(end, &packet.expect("an index of the line"));
-            self.tally.count("lost on the line", 1);
+        let packets = self.ends[end].line.len();
+        if packets > 0 && self.loss.is_some_and(|n| self.rng.once_in(n)) {
+            self.lose_at(end, self.rng.below(packets));
         }
     }
 
     /// Without loss: what is on the line arrives, then each end's queue is sent and acknowledged.
     pub fn settle(&mut self) {
+        (0..2).for_each(|end| self.check_counted(end));
         self.drain();
         for end in 0..2 {
             self.call(end, Event::Timer, REPLY);
@@ -194,6 +233,7 @@ impl Ends<'_> {
             let all = self.ends[1 - end].delivered == self.ends[end].accepted.len();
             self.tally
                 .claim(ALL, all && self.ends[end].archive.state == 2);
+            self.check_counted(end);
         }
     }
 }

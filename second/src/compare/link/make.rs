@@ -5,19 +5,16 @@ use crate::archive::link::{Link, Queue, Queued};
 use second::link::{PAYLOAD, QUEUE, REPLY};
 use second::rng::Rng;
 
-/// States and queue lengths of well-formed links.
-pub const SHAPES: [(u8, usize); 10] = [
-    (0, 0),
-    (1, 0),
-    (2, 0),
-    (3, 1),
-    (3, 2),
-    (3, 3),
-    (3, 4),
-    (3, 5),
-    (3, 6),
-    (3, 7),
-];
+/// How many states and queue lengths well-formed links have.
+pub const SHAPES: usize = 3 + QUEUE;
+
+/// State and queue length number i of a well-formed link: a queue in DLDWAIT alone, and never an empty one there.
+pub fn shape(i: usize) -> (u8, usize) {
+    match i {
+        0..=2 => (i as u8, 0),
+        _ => (3, i - 2),
+    }
+}
 
 /// Sizes of the reply buffer around the least one.
 pub const ROOMS: [usize; 5] = [0, 1, REPLY - 1, REPLY, REPLY + 1];
@@ -72,13 +69,30 @@ fn number_over_15(rng: &Rng) -> u8 {
 /// among others.
 pub fn ill_formed(rng: &Rng, fault: usize) -> Link {
     let waiting = rng.between(1, QUEUE);
-    let mut link = shaped(rng, rng.pick(&SHAPES));
+    let mut link = shaped(rng, shape(rng.below(SHAPES)));
     match fault {
         0 => link.state = rng.pick(&[4, 5, 128, 255, rng.between(4, 255) as u8]),
-        1 => link.queue.count = rng.pick(&[8, 9, 255, 256, 257, (1 << 32) + 1, usize::MAX]),
+        1 => {
+            link.queue.count = rng.pick(&[
+                QUEUE + 1,
+                QUEUE + 2,
+                255,
+                256,
+                257,
+                (1 << 32) + 1,
+                usize::MAX,
+            ])
+        }
         2 => {
             link = shaped(rng, (3, waiting));
-            let length = rng.pick(&[257, 258, 512, 1 << 16, (1 << 32) + 1, usize::MAX]);
+            let length = rng.pick(&[
+                PAYLOAD + 1,
+                PAYLOAD + 2,
+                512,
+                1 << 16,
+                (1 << 32) + 1,
+                usize::MAX,
+            ]);
             link.queue.slots[rng.below(waiting)].length = length;
         }
         3 => link.base = number_over_15(rng),
@@ -96,7 +110,7 @@ pub fn any_link(rng: &Rng) -> Link {
     match rng.below(8) {
         0 => ill_formed(rng, rng.below(FAULTS)),
         1..=4 => shaped(rng, (3, rng.between(1, QUEUE))),
-        _ => shaped(rng, rng.pick(&SHAPES)),
+        _ => shaped(rng, shape(rng.below(SHAPES))),
     }
 }
 

@@ -38,7 +38,10 @@ impl Ends<'_> {
             2..=12 => self.payload(),
             13 => return self.probe(end),
             _ if quiet => Event::Timer,
-            _ => return self.arrival(end, room),
+            _ => {
+                self.arrival(end, room);
+                return;
+            }
         };
         self.call(end, event, room);
     }
@@ -92,7 +95,7 @@ fn run(rng: &Rng, claimed: bool, tally: &mut Tally) -> u64 {
         ends: [fresh_end(), fresh_end()],
         claimed,
         waits: rng.once_in(2),
-        loss: rng.pick(&[4, 20, 100, 1000]),
+        loss: Some(rng.pick(&[4, 20, 100, 1000])),
         calls: 0,
     };
     ends.open(rng.below(2));
@@ -112,10 +115,11 @@ fn run(rng: &Rng, claimed: bool, tally: &mut Tally) -> u64 {
     ends.calls
 }
 
-/// Runs of `count` calls in all, or a few more. One run in four is disturbed.
+/// Runs of five times `count` calls in all, or a few more: calls are quick, and what goes wrong may take many. One run in four
+/// is disturbed.
 pub fn two_ends(rng: &Rng, count: u64, tally: &mut Tally) {
     let mut calls = 0;
-    while calls < count {
+    while calls < 5 * count {
         calls += run(rng, !rng.once_in(4), tally);
     }
 }

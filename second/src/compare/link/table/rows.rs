@@ -1,0 +1,116 @@
+//! The links and the events of the table.
+use super::super::call::Event;
+use crate::archive::link::{fresh, Link, Queue, Queued};
+use second::link::{PAYLOAD, QUEUE};
+use std::array::from_fn;
+
+/// The numbers of an open link of the table, so that both restart after a step or two.
+const OLDEST: u8 = 14;
+const AWAITED: u8 = 15;
+
+/// How many payloads are queued at the DLDWAIT of the table whose queue is not full.
+const SOME: usize = 3;
+
+pub const STATES: [&str; 4] = ["DLIDLE", "DLRESET", "DLDATA", "DLDWAIT"];
+
+/// A link with `count` payloads of 0, 1, 2 .. octets, which are letters; an open one with the table's numbers.
+fn link(state: u8, count: usize) -> Link {
+    let queued = |i: usize| Queued {
+        length: i,
+        octets: from_fn(|k| if k < i { b'A' + k as u8 } else { 0 }),
+    };
+    let opened = state >= 2;
+    Link {
+        state,
+        queue: Queue {
+            count,
+            slots: from_fn(|i| queued(if i < count { i } else { 0 })),
+        },
+        base: if opened { OLDEST } else { 0 },
+        expected: if opened { AWAITED } else { 0 },
+    }
+}
+
+type Named<T> = (String, T);
+
+/// A link in each state, and one with a full queue.
+pub fn links() -> Vec<Named<Link>> {
+    vec![
+        ("DLIDLE".into(), fresh()),
+        ("DLRESET".into(), link(1, 0)),
+        ("DLDATA".into(), link(2, 0)),
+        ("DLDWAIT".into(), link(3, SOME)),
+        ("DLDWAIT, full".into(), link(3, QUEUE)),
+    ]
+}
+
+/// A value for each way of not being well formed; and last one that is, whose free slots hold anything.
+pub fn odd_links() -> Vec<Named<Link>> {
+    let with = |name: &str, mut link: Link, change: fn(&mut Link)| {
+        change(&mut link);
+        (name.to_string(), link)
+    };
+    let mut odd = vec![
+        with("state 4", link(2, 0), |l| l.state = 4),
+        with("a payload more than the queue holds", link(3, QUEUE), |l| {
+            l.queue.count += 1
+        }),
+        with("a queued payload of 257 octets", link(3, SOME), |l| {
+            l.queue.slots[1].length = PAYLOAD + 1
+        }),
+        with("oldest 16", link(2, 0), |l| l.base = 16),
+        with("awaited 16", link(2, 0), |l| l.expected = 16),
+        with("DLDWAIT without a queue", link(3, 0), |_| {}),
+        with("DLDATA with a queue", link(2, SOME), |_| {}),
+    ];
+    for (state, name) in STATES.iter().enumerate().take(2) {
+        let closed = |count| link(state as u8, count);
+        odd.extend([
+            with(&format!("{name} with a queue"), closed(SOME), |_| {}),
+            with(&format!("{name} with oldest 1"), closed(0), |l| l.base = 1),
+            with(&format!("{name} with awaited 1"), closed(0), |l| {
+                l.expected = 1
+            }),
+        ]);
+    }
+    odd.push(with("DLDWAIT, 257 in a free slot", link(3, SOME), |l| {
+        l.queue.slots[SOME].length = PAYLOAD + 1
+    }));
+    odd
+}
+
+pub fn packet(kind: u8, number: u8, payload: usize) -> Event {
+    Event::Arrival([&[kind | (number % 16)], &vec![b'x'; payload][..]].concat())
+}
+
+/// The events in the order of the step table's rows; at last the packet that is none.
+pub fn events() -> Vec<Named<Event>> {
+    let mut events = vec![
+        ("RESET".into(), packet(0x10, 0, 0)),
+        ("start".into(), Event::Start),
+        ("RESET_ACK".into(), packet(0x20, 0, 0)),
+    ];
+    for (number, size) in [
+        (AWAITED, 3),
+        (AWAITED, 0),
+        (AWAITED, PAYLOAD),
+        (AWAITED, PAYLOAD + 1),
+        (AWAITED - 1, 3),
+        (AWAITED + 1, 3),
+    ] {
+        let name = format!("DATA {} with {size} octets", number % 16);
+        events.push((name, packet(0x40, number, size)));
+    }
+    for distance in [0, 1, SOME, SOME + 1, QUEUE, QUEUE + 1] {
+        let number = (OLDEST + distance as u8) % 16;
+        let name = format!("DACK {number}, distance {distance}");
+        events.push((name, packet(0x50, number, 0)));
+    }
+    events.push(("timer".into(), Event::Timer));
+    for size in [0, PAYLOAD, PAYLOAD + 1] {
+        let name = format!("payload of {size} octets");
+        events.push((name, Event::Payload(vec![b'x'; size])));
+    }
+    events.push(("empty packet".into(), Event::Arrival(Vec::new())));
+    events
+}

@@ -1,0 +1,122 @@
+//! A worked run at two open ends: a full queue, each refusal, a loss and its repeat, a loss by too small a reply buffer, and
+//! as many payloads as make the numbers restart. Its counts follow from the queue's limit alone.
+use super::super::tally::Tally;
+use super::call::Event;
+use super::ends::{fresh_end, Ends};
+use second::link::{PAYLOAD, QUEUE, REPLY};
+use second::rng::Rng;
+
+/// Three queues are accepted and delivered; sent are all but four payloads of five queues, since the first two of the first
+/// queue are not repeated.
+const COUNTS: &str = "the worked run's counts are those of its script";
+
+const LEFT: usize = 0;
+const RIGHT: usize = 1;
+
+#[derive(Clone, Copy)]
+enum Act {
+    /// at the left end: the size of the payload, and of the reply buffer
+    Payload(usize, usize),
+    /// at the left end: the size of the reply buffer
+    Timer(usize),
+    /// at an end: the size of the reply buffer
+    Arrival(usize, usize),
+    /// on the line from the left end: the packet at an index is lost
+    Loss(usize),
+}
+
+type Step = (&'static str, usize, Act);
+
+/// What each step does, how often, and how.
+fn script() -> Vec<Step> {
+    let payload = |times| ("payload", times, Act::Payload(3, REPLY));
+    let timer = ("timer", 1, Act::Timer(REPLY));
+    let arrive = |times| {
+        [
+            ("arrival at the right", times, Act::Arrival(RIGHT, REPLY)),
+            ("arrival at the left", times, Act::Arrival(LEFT, REPLY)),
+        ]
+    };
+    let mut steps = vec![
+        payload(QUEUE + 1),
+        ("payload, small reply buffer", 1, Act::Payload(3, REPLY - 1)),
+        ("payload too long", 1, Act::Payload(PAYLOAD + 1, REPLY)),
+        ("timer, small reply buffer", 1, Act::Timer(REPLY - 1)),
+        ("arrival, nothing on the line", 1, Act::Arrival(LEFT, REPLY)),
+        timer,
+        ("the third DATA is lost", 1, Act::Loss(2)),
+        ("a loss where there is no packet", 1, Act::Loss(QUEUE)),
+    ];
+    steps.extend(arrive(QUEUE - 1));
+    steps.push(timer);
+    steps.push((
+        "arrival, small reply buffer",
+        1,
+        Act::Arrival(RIGHT, REPLY - 1),
+    ));
+    steps.extend(arrive(QUEUE - 3));
+    steps.push(timer);
+    steps.extend(arrive(QUEUE - 2));
+    steps.push(("timer, nothing queued", 1, Act::Timer(REPLY)));
+    for _ in 0..2 {
+        steps.extend([payload(QUEUE), timer]);
+        steps.extend(arrive(QUEUE));
+    }
+    steps
+}
+
+/// One act; its number, where there was a call.
+fn act(ends: &mut Ends, act: Act) -> Option<u8> {
+    match act {
+        Act::Payload(size, room) => {
+            // it begins with how many came before, so that no two are the same
+            let mut payload = ends.ends[LEFT].accepted.len().to_le_bytes().to_vec();
+            payload.resize(size, 0);
+            Some(ends.call(LEFT, Event::Payload(payload), room))
+        }
+        Act::Timer(room) => Some(ends.call(LEFT, Event::Timer, room)),
+        Act::Arrival(end, room) => ends.arrival(end, room),
+        Act::Loss(index) => {
+            ends.lose_at(RIGHT, index);
+            None
+        }
+    }
+}
+
+/// The run as text: the numbers of each step, and what it came to.
+pub fn worked_run(rng: &Rng, tally: &mut Tally) -> String {
+    let mut ends = Ends {
+        rng,
+        tally,
+        ends: [fresh_end(), fresh_end()],
+        claimed: true,
+        waits: true,
+        loss: None,
+        calls: 0,
+    };
+    ends.open(LEFT);
+    let script = script();
+    let events: usize = script.iter().map(|(_, times, _)| times).sum();
+    let mut text = format!("\n\nA run of {events} events at two open ends, with the numbers answered. Payloads and timers are the left end's\n\n");
+    for (name, times, what) in script {
+        let numbers: Vec<_> = (0..times)
+            .filter_map(|_| act(&mut ends, what))
+            .map(|n| n.to_string())
+            .collect();
+        text += format!("  {name:<32} {}", numbers.join(" ")).trim_end();
+        text.push('\n');
+    }
+    text += &came_to(&mut ends);
+    ends.settle();
+    text
+}
+
+fn came_to(ends: &mut Ends) -> String {
+    let [left, right] = &ends.ends;
+    let counts = [left.accepted.len(), right.delivered, left.sent, left.lost()];
+    let [accepted, delivered, sent, lost] = counts;
+    let (oldest, awaited) = (left.archive.base, right.archive.expected);
+    let holds = counts == [3 * QUEUE, 3 * QUEUE, 5 * QUEUE - 4, 2];
+    ends.tally.claim(COUNTS, holds);
+    format!("\naccepted {accepted}, delivered {delivered}, DATA sent {sent}, lost {lost}; oldest {oldest}, awaited {awaited}\n")
+}
