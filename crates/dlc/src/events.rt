@@ -25,7 +25,7 @@ use dlc_packet::Kind;
 impl Link {
     // The upper layer starts the link.
     pub fn start(mut self, reply: &mut [u8]) -> Outcome
-        ensures { λ r. ⌜ StartCall self (now (reply .entry)) (now (reply .exit)) r ⌝ }
+        ensures { λ r. ⌜ StartCall view self (now (reply .entry)) (now (reply .exit)) (r .link) (r .answer) ⌝ }
     {
         let c = self.refusal(reply.len());
         if c != DONE {
@@ -42,7 +42,7 @@ impl Link {
 
     // The timer runs out.
     pub fn timer(mut self, reply: &mut [u8]) -> Outcome
-        ensures { λ r. ⌜ TimerCall self (now (reply .entry)) (now (reply .exit)) r ⌝ }
+        ensures { λ r. ⌜ TimerCall view self (now (reply .entry)) (now (reply .exit)) (r .link) (r .answer) ⌝ }
     {
         let c = self.refusal(reply.len());
         if c != DONE {
@@ -59,7 +59,7 @@ impl Link {
 
     // The upper layer hands a payload down.
     pub fn payload(mut self, p: &[u8], reply: &mut [u8]) -> Outcome
-        ensures { λ r. ⌜ PayloadCall self (now (p .entry)) (now (reply .entry)) (now (reply .exit)) r ⌝ }
+        ensures { λ r. ⌜ PayloadCall view self (now (p .entry)) (now (reply .entry)) (now (reply .exit)) (r .link) (r .answer) ⌝ }
     {
         let c = self.refusal(reply.len());
         if c != DONE {
@@ -83,7 +83,7 @@ impl Link {
 
     // A packet arrives.
     pub fn arrival(mut self, packet: &[u8], reply: &mut [u8]) -> Outcome
-        ensures { λ r. ⌜ ArrivalCall self (now (packet .entry)) (now (reply .entry)) (now (reply .exit)) r ⌝ }
+        ensures { λ r. ⌜ ArrivalCall view self (now (packet .entry)) (now (reply .entry)) (now (reply .exit)) (r .link) (r .answer) ⌝ }
     {
         let c = self.refusal(reply.len());
         if c != DONE {

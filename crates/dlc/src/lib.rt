@@ -108,7 +108,7 @@ impl Link {
     // RESET: clear.
     fn clear(self, reply: &mut [u8]) -> Outcome
         requires { ⌜ (wellFormed self ≡ true) × (replySize ≤ length (now reply)) ⌝ }
-        ensures { λ r. ⌜ Meets (cleared (view self)) self (now (reply .entry)) (now (reply .exit)) r ⌝ }
+        ensures { λ r. ⌜ Meets view (cleared (view self)) self (now (reply .entry)) (now (reply .exit)) (r .link) (r .answer) ⌝ }
     {
         let mut q = self.queue;
         q.count = 0;
@@ -124,7 +124,7 @@ impl Link {
     // RESET_ACK opens a link that waits for it.
     fn reset_ack(self) -> Outcome
         requires { ⌜ wellFormed self ≡ true ⌝ }
-        ensures { λ r. ⌜ Returns (resetAckStep (view self) (self .state)) self r ⌝ }
+        ensures { λ r. ⌜ Returns view (resetAckStep (view self) (self .state)) self (r .link) (r .answer) ⌝ }
     {
         let s = self.state;
         match s {
@@ -138,7 +138,7 @@ impl Link {
     // DATA x at a link in any state.
     fn data(self, x: u8, reply: &mut [u8]) -> Outcome
         requires { ⌜ (wellFormed self ≡ true) × (replySize ≤ length (now reply)) ⌝ }
-        ensures { λ r. ⌜ Meets (dataStep (view self) (self .state) x) self (now (reply .entry)) (now (reply .exit)) r ⌝ }
+        ensures { λ r. ⌜ Meets view (dataStep (view self) (self .state) x) self (now (reply .entry)) (now (reply .exit)) (r .link) (r .answer) ⌝ }
     {
         let s = self.state;
         if is_open(s) {
@@ -151,7 +151,7 @@ impl Link {
     // DATA x at an open link: judge. A repeated DATA is answered too: if its DACK was lost, the sender repeats until one comes.
     fn judge(mut self, x: u8, reply: &mut [u8]) -> Outcome
         requires { ⌜ (wellFormed self ≡ true) × ((isOpen (self .state) ≡ true) × (replySize ≤ length (now reply))) ⌝ }
-        ensures { λ r. ⌜ Meets (judged (view self) x) self (now (reply .entry)) (now (reply .exit)) r ⌝ }
+        ensures { λ r. ⌜ Meets view (judged (view self) x) self (now (reply .entry)) (now (reply .exit)) (r .link) (r .answer) ⌝ }
     {
         let expected = self.expected;
         if x == expected {
@@ -168,7 +168,7 @@ impl Link {
     // DACK x at a link in any state.
     fn dack(self, x: u8) -> Outcome
         requires { ⌜ wellFormed self ≡ true ⌝ }
-        ensures { λ r. ⌜ Returns (dackStep (view self) (self .state) x) self r ⌝ }
+        ensures { λ r. ⌜ Returns view (dackStep (view self) (self .state) x) self (r .link) (r .answer) ⌝ }
     {
         let s = self.state;
         match s {
@@ -182,7 +182,7 @@ impl Link {
     // DACK x while payloads wait: remove.
     fn acknowledge(self, x: u8) -> Outcome
         requires { ⌜ (wellFormed self ≡ true) × (self .state ≡ State.Wait) ⌝ }
-        ensures { λ r. ⌜ Returns (acknowledged (view self) (distance (self .base) x)) self r ⌝ }
+        ensures { λ r. ⌜ Returns view (acknowledged (view self) (distance (self .base) x)) self (r .link) (r .answer) ⌝ }
     {
         let q = self.queue;
         let n = dlc_packet::dack_distance(self.base, x);
@@ -231,7 +231,7 @@ impl Link {
     // The timer while payloads wait: send all.
     fn send_all(self, reply: &mut [u8]) -> Outcome
         requires { ⌜ (wellFormed self ≡ true) × (replySize ≤ length (now reply)) ⌝ }
-        ensures { λ r. ⌜ Meets (timerStep (view self) State.Wait) self (now (reply .entry)) (now (reply .exit)) r ⌝ }
+        ensures { λ r. ⌜ Meets view (timerStep (view self) State.Wait) self (now (reply .entry)) (now (reply .exit)) (r .link) (r .answer) ⌝ }
     {
         let q = self.queue;
         let base = self.base;

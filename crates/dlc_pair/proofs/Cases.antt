@@ -7,9 +7,8 @@ use mathlib.Core.Option.{some}
 use native.Mathlib.Omega.{arith}
 use lib.Dec.{lit≤}
 use lib.ListN.{replicate}
-use Rattle.dlc.specs.declared.Link.{Link}
 use Rattle.dlc.specs.declared.Answer.{Answer}
-use Rattle.dlc.specs.declared.Outcome.{Outcome}
+use Rattle.dlc.specs.Model.{Model}
 use Rattle.dlc.specs.Answers.{done, otherNumber, queueFull, replyTooSmall}
 use Rattle.dlc.specs.Limits.{dataPacket, dackPacket, resetPacket}
 use Rattle.window.specs.Sides.{left, right}
@@ -59,7 +58,7 @@ pub lost-25 : lostBy true (answer otherNumber false) ≡ 0
 lost-25 = refl
 
 -- a lost DATA counts for its sender, a lost DACK for the end that it was sent to
-module _ (l l′ : Link) where
+module _ {L : Type 0} (l l′ : L) where
   pub data-lost : lostAt 0 (some (dataPacket 3 [])) (initial l l′) ≡ record { left = relined [] 1 (freshEnd l); right = relined [] 0 (freshEnd l′) }
   data-lost = refl
 
@@ -67,10 +66,10 @@ module _ (l l′ : Link) where
   dack-lost = refl
 
 -- an end after a call that sent one packet of two octets: the next call takes the link that this one gave back, and the packet is on the line
-abbrev oneSent : Link → Outcome
-oneSent l = record { link = l; answer = record { code = done; «upper_reset» = false; delivered = false; sent = 1; lengths = 2 ∷ 0 ∷ [] } }
+abbrev oneSent : Answer
+oneSent = record { code = done; «upper_reset» = false; delivered = false; sent = 1; lengths = 2 ∷ 0 ∷ [] }
 
-pub after-call : (l l′ : Link) → called (oneSent l) (0x40 ∷ 7 ∷ 99 ∷ []) [] [] 0 (freshEnd l′)
+pub after-call : {L : Type 0} (l l′ : L) → called l oneSent (0x40 ∷ 7 ∷ 99 ∷ []) [] [] 0 (freshEnd l′)
     ≡ record { link = l; line = (0x40 ∷ 7 ∷ []) ∷ []; copied = (0x40 ∷ 7 ∷ []) ∷ []; accepted = []; delivered = []; lost = 0; answers = done ∷ [] }
 after-call l l′ = refl
 
@@ -78,11 +77,11 @@ after-call l l′ = refl
 abbrev timerAt : Octets → List Event
 timerAt b = record { side = left; act = timer b } ∷ []
 
-pub premise-before : (b : Octets) (w : World) (h : History (timerAt b) w) → TimerWaits left (timerAt b) w h ≡ (Drained w × Unit {0})
-premise-before b w h = refl
+pub premise-before : {L : Type 0} (v : L → Model) (b : Octets) (w : World L) (h : History v (timerAt b) w) → TimerWaits v left (timerAt b) w h ≡ (Drained w × Unit {0})
+premise-before v b w h = refl
 
-pub premise-other : (b : Octets) (w : World) (h : History (timerAt b) w) → TimerWaits right (timerAt b) w h ≡ (Unit {0} × Unit {0})
-premise-other b w h = refl
+pub premise-other : {L : Type 0} (v : L → Model) (b : Octets) (w : World L) (h : History v (timerAt b) w) → TimerWaits v right (timerAt b) w h ≡ (Unit {0} × Unit {0})
+premise-other v b w h = refl
 
 -- ---- an exchange of one payload: the timer here, DATA there, the DACK back; recovery with nothing to arrive is the two timers
 pub one-exchange : (b : Octets) → exchange left b (b ∷ []) (b ∷ [])

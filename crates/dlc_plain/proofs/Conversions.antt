@@ -2,10 +2,9 @@
 use Prim.Native.Nat.{ℕ, zero, suc, _<_, _≤_}
 use native.Mathlib.Omega.{arith}
 use mathlib.Core.Path.{_≡_, refl, sym, ap, ap₂, _∙_}
-use mathlib.Core.Bool.{Bool, true, false, not, _&&_, cond}
-use mathlib.Core.List.{List, [], _∷_, flatten}
-use lib.ListN.{length}
-use lib.Dec.{leb, eqb}
+use mathlib.Core.Bool.{true, _&&_}
+use mathlib.Core.List.{List, flatten}
+use lib.Dec.{leb}
 use borrow.Author.Tests.{le-leb, lt-leb}
 use Rattle.common.specs.Buffer.{withFront}
 use Rattle.dlc.specs.declared.State.{State}
@@ -15,12 +14,11 @@ use Rattle.dlc.specs.declared.Outcome.{Outcome}
 use Rattle.dlc.specs.Answers.{badLink, done, refuses}
 use Rattle.dlc.specs.Model.{Model, wellFormed, view as linkView}
 use Rattle.dlc.specs.Events.{Effect, refuse, startOf, timerOf, payloadOf, arrivalOf}
-use Rattle.dlc.specs.Calls.{answerOf, Meets as LinkMeets}
+use Rattle.dlc.specs.Calls.{answerOf, Meets}
 use Rattle.dlc.proofs.Refusals.{answered, start-refused, timer-refused, payload-refused, arrival-refused}
 use Rattle.dlc_plain.specs.declared.PlainLink.{PlainLink}
 use Rattle.dlc_plain.specs.declared.PlainOutcome.{PlainOutcome}
 use Rattle.dlc_plain.specs.Plain.{numberOf, stateOf, stateWait, linkOf, plainOf, outcomeOf, view}
-use Rattle.dlc_plain.specs.PlainCalls.{Meets}
 
 -- ---- there and back
 state-again : (s : State) → stateOf (numberOf s) ≡ s
@@ -60,14 +58,18 @@ module _ (c : PlainLink) (h : c .state ≤ stateWait) where
       λ i. record { ok = ok i; state = stateOf (c .state); queue = linkView (linkOf c) .queue; base = c .base; expected = c .expected }
 
   -- f is the event of the step table, l the link by its numbers
-  pub passed : (f : Model → Effect) (before later : List ℕ) (l : Link) (o : Outcome) (r : PlainOutcome) → l ≡ linkOf c → LinkMeets (f (linkView l)) l before later o
-      → r ≡ outcomeOf o → Meets (f (view c)) c before later r
+  pub passed : (f : Model → Effect) (before later : List ℕ) (l : Link) (o : Outcome) (r : PlainOutcome) → l ≡ linkOf c
+      → Meets linkView (f (linkView l)) l before later (o .link) (o .answer)
+      → r ≡ outcomeOf o
+      → Meets view (f (view c)) c before later (r .link) (r .answer)
   passed f before later l o r g m e =
       let d : f (linkView l) ≡ f (view c) = ap f (ap linkView g ∙ sym view-link) in
       record {
-        answer = ap (λ (r : PlainOutcome). r .answer) e ∙ m .returns .answer ∙ ap answerOf d;
-        link = ap (λ (r : PlainOutcome). view (r .link)) e ∙ view-plain (o .link) ∙ m .returns .link ∙ ap (λ (d : Effect). d .after) d;
-        kept = λ n. ap (λ (r : PlainOutcome). r .link) e ∙ ap plainOf (m .returns .kept (ap (λ (d : Effect). refuses (d .code)) d ∙ n) ∙ g) ∙ plain-again c h;
+        returns = record {
+          answer = ap (λ (r : PlainOutcome). r .answer) e ∙ m .returns .answer ∙ ap answerOf d;
+          link = ap (λ (r : PlainOutcome). view (r .link)) e ∙ view-plain (o .link) ∙ m .returns .link ∙ ap (λ (d : Effect). d .after) d;
+          kept = λ n. ap (λ (r : PlainOutcome). r .link) e ∙ ap plainOf (m .returns .kept (ap (λ (d : Effect). refuses (d .code)) d ∙ n) ∙ g) ∙ plain-again c h;
+        };
         reply = m .reply ∙ ap (λ (d : Effect). withFront (flatten (d .packets)) before) d;
       }
 
@@ -93,13 +95,8 @@ module _ (c : PlainLink) (h : stateWait < c .state) where
     pub arrival-bad : (packet : List ℕ) → arrivalOf (view c) packet room ≡ refuse (view c) badLink
     arrival-bad = arrival-refused (view c) room badLink bad-link not-done
 
-  pub refused : (d : Effect) (before : List ℕ) (r : PlainOutcome) → d ≡ refuse (view c) badLink → r ≡ record { link = c; answer = answerOf (refuse (view c) badLink) }
-      → Meets d c before before r
+  pub refused : (d : Effect) (before : List ℕ) (r : PlainOutcome) → d ≡ refuse (view c) badLink
+      → r ≡ record { link = c; answer = answerOf (refuse (view c) badLink) }
+      → Meets view d c before before (r .link) (r .answer)
   unfolding flatten
-  refused d before r e g =
-      record {
-        answer = ap (λ (r : PlainOutcome). r .answer) g ∙ ap answerOf (sym e);
-        link = ap (λ (r : PlainOutcome). view (r .link)) g ∙ ap (λ (d : Effect). d .after) (sym e);
-        kept = λ n. ap (λ (r : PlainOutcome). r .link) g;
-        reply = ap (λ (d : Effect). withFront (flatten (d .packets)) before) (sym e);
-      }
+  refused d before r e g = rw (e, g) (record { returns = record { answer = refl; link = refl; kept = λ n. refl }; reply = refl })

@@ -3,7 +3,7 @@
 --   view c     the model of a link in plain numbers; a state that is none of the four makes it ill formed
 --   linkOf, plainOf     a link by its numbers, and the numbers of a link
 use Prim.Native.Nat.{ℕ}
-use mathlib.Core.Bool.{Bool, _&&_, cond}
+use mathlib.Core.Bool.{_&&_, cond}
 use lib.Dec.{leb, eqb}
 use Rattle.dlc_queue.specs.Queue.{payloads}
 use Rattle.dlc.specs.declared.State.{State}

@@ -4,9 +4,8 @@ ghost use mathlib.Core.Path.{_≡_};
 ghost use Rattle.dlc.specs.Model.{fresh};
 ghost use Rattle.dlc.specs.Answers.{badLink};
 ghost use Rattle.dlc.specs.Events.{refuse};
-ghost use Rattle.dlc.specs.Calls.{answerOf};
+ghost use Rattle.dlc.specs.Calls.{answerOf, StartCall, TimerCall, PayloadCall, ArrivalCall};
 ghost use Rattle.dlc_plain.specs.Plain.{numberOf, stateOf, linkOf, plainOf, outcomeOf, view};
-ghost use Rattle.dlc_plain.specs.PlainCalls.{StartCall, TimerCall, PayloadCall, ArrivalCall};
 use dlc::Answer;
 use dlc::BAD_LINK;
 use dlc::Link;
@@ -47,7 +46,7 @@ impl PlainLink {
 
     // The upper layer starts the link.
     pub fn start(self, reply: &mut [u8]) -> PlainOutcome
-        ensures { λ r. ⌜ StartCall self (now (reply .entry)) (now (reply .exit)) r ⌝ }
+        ensures { λ r. ⌜ StartCall view self (now (reply .entry)) (now (reply .exit)) (r .link) (r .answer) ⌝ }
     {
         if STATE_WAIT < self.state {
             return self.bad_link();
@@ -57,7 +56,7 @@ impl PlainLink {
 
     // The timer runs out.
     pub fn timer(self, reply: &mut [u8]) -> PlainOutcome
-        ensures { λ r. ⌜ TimerCall self (now (reply .entry)) (now (reply .exit)) r ⌝ }
+        ensures { λ r. ⌜ TimerCall view self (now (reply .entry)) (now (reply .exit)) (r .link) (r .answer) ⌝ }
     {
         if STATE_WAIT < self.state {
             return self.bad_link();
@@ -67,7 +66,7 @@ impl PlainLink {
 
     // The upper layer hands a payload down.
     pub fn payload(self, p: &[u8], reply: &mut [u8]) -> PlainOutcome
-        ensures { λ r. ⌜ PayloadCall self (now (p .entry)) (now (reply .entry)) (now (reply .exit)) r ⌝ }
+        ensures { λ r. ⌜ PayloadCall view self (now (p .entry)) (now (reply .entry)) (now (reply .exit)) (r .link) (r .answer) ⌝ }
     {
         if STATE_WAIT < self.state {
             return self.bad_link();
@@ -77,7 +76,7 @@ impl PlainLink {
 
     // A packet arrives.
     pub fn arrival(self, packet: &[u8], reply: &mut [u8]) -> PlainOutcome
-        ensures { λ r. ⌜ ArrivalCall self (now (packet .entry)) (now (reply .entry)) (now (reply .exit)) r ⌝ }
+        ensures { λ r. ⌜ ArrivalCall view self (now (packet .entry)) (now (reply .entry)) (now (reply .exit)) (r .link) (r .answer) ⌝ }
     {
         if STATE_WAIT < self.state {
             return self.bad_link();

@@ -42,7 +42,7 @@ returns c =
     let l = c .before .before .before .before .before .before .before .before .args .self in
     let e : c .before .before .before .before .before .advanced .result ≡ advance (l .expected) 1 = c .before .before .before .before .before .advanced .ensures in
     let d : dackOctet + c .before .before .before .before .dack-number .result ≡ dackOctet + dackNumber (advance (l .expected) 1) = ap (λ (n : ℕ). dackOctet + n) (c .before .before .before .before .dack-number .ensures ∙ e) in
-    meets-by _ (taken (view l)) _ _ _ _ (judged-same (view l) (c .before .before .before .before .before .before .before .before .args .x) (c .before .before .before .before .before .before .if1 .taken))
+    meets-by (judged-same (view l) (c .before .before .before .before .before .before .before .before .args .x) (c .before .before .before .before .before .before .if1 .taken))
     (one-meets (taken (view l)) l (record { state = l .state; queue = l .queue; base = l .base; expected = c .before .before .before .before .before .advanced .result }) (dackOctet + c .before .before .before .before .dack-number .result) _ _ _ refl
     (ap (λ (n : ℕ). (n ∷ []) ∷ []) (sym d)) (view-expectNext l (c .before .before .before .before .before .before .before .before .pre .0) (c .before .before .before .before .before .advanced .result) (c .before .before .before .before .before .before .before .before .pre .1 .0) e) (c .before .before .send-one .ensures))
 
@@ -53,7 +53,7 @@ returns-2 : tie.Need-returns-2
 returns-2 c =
     let l = c .before .before .before .before .before .before .before .args .self in
     let d : dackOctet + c .before .before .before .before .dack-number2 .result ≡ dackOctet + dackNumber (l .expected) = ap (λ (n : ℕ). dackOctet + n) (c .before .before .before .before .dack-number2 .ensures) in
-    meets-by _ (other (view l)) _ _ _ _ (judged-other (view l) (c .before .before .before .before .before .before .before .args .x) (c .before .before .before .before .before .if1 .left))
+    meets-by (judged-other (view l) (c .before .before .before .before .before .before .before .args .x) (c .before .before .before .before .before .if1 .left))
     (one-meets (other (view l)) l l (dackOctet + c .before .before .before .before .dack-number2 .result) _ _ _ refl
     (ap (λ (n : ℕ). (n ∷ []) ∷ []) (sym d)) refl (c .before .before .send-one2 .ensures))
 
