@@ -33,7 +33,10 @@ impl Link {
         }
         let s = self.state;
         match s {
-            State::Idle => silent(self.in_state(State::Reset), DONE),
+            State::Idle => {
+                self = self.in_state(State::Reset);
+                silent(self, DONE)
+            }
             State::Reset => silent(self, NO_ENTRY),
             State::Data => silent(self, NO_ENTRY),
             State::Wait => silent(self, NO_ENTRY),
@@ -75,7 +78,8 @@ impl Link {
             if Link::SLOTS <= n {
                 return silent(self, QUEUE_FULL);
             }
-            silent(self.with_payload(p), DONE)
+            self = self.with_payload(p);
+            silent(self, DONE)
         } else {
             silent(self, NOT_OPEN)
         }

@@ -92,7 +92,7 @@ impl Link {
         }
     }
 
-    // The link in another state.
+    // The link in another state. A field that is an enum can't be set, so the struct is made anew.
     fn in_state(self, s: State) -> Link
         ensures { λ r. ⌜ r ≡ record { state = s; queue = self .queue; base = self .base; expected = self .expected } ⌝ }
     {
@@ -106,30 +106,31 @@ impl Link {
     }
 
     // RESET: clear.
-    fn clear(self, reply: &mut [u8]) -> Outcome
+    fn clear(mut self, reply: &mut [u8]) -> Outcome
         requires { ⌜ (wellFormed self ≡ true) × (replySize ≤ length (now reply)) ⌝ }
         ensures { λ r. ⌜ Meets view (cleared (view self)) self (now (reply .entry)) (now (reply .exit)) (r .link) (r .answer) ⌝ }
     {
         let mut q = self.queue;
         q.count = 0;
-        let l = Link {
-            state: State::Data,
-            queue: q,
-            base: 0,
-            expected: 0,
-        };
-        send_one(l, DONE, true, false, dlc_packet::RESET_ACK, reply)
+        self.queue = q;
+        self.base = 0;
+        self.expected = 0;
+        self = self.in_state(State::Data);
+        send_one(self, DONE, true, false, dlc_packet::RESET_ACK, reply)
     }
 
     // RESET_ACK opens a link that waits for it.
-    fn reset_ack(self) -> Outcome
+    fn reset_ack(mut self) -> Outcome
         requires { ⌜ wellFormed self ≡ true ⌝ }
         ensures { λ r. ⌜ Returns view (resetAckStep (view self) (self .state)) self (r .link) (r .answer) ⌝ }
     {
         let s = self.state;
         match s {
             State::Idle => silent(self, NO_ENTRY),
-            State::Reset => silent(self.in_state(State::Data), DONE),
+            State::Reset => {
+                self = self.in_state(State::Data);
+                silent(self, DONE)
+            }
             State::Data => silent(self, NO_ENTRY),
             State::Wait => silent(self, NO_ENTRY),
         }
@@ -180,7 +181,7 @@ impl Link {
     }
 
     // DACK x while payloads wait: remove.
-    fn acknowledge(self, x: u8) -> Outcome
+    fn acknowledge(mut self, x: u8) -> Outcome
         requires { ⌜ (wellFormed self ≡ true) × (self .state ≡ State.Wait) ⌝ }
         ensures { λ r. ⌜ Returns view (acknowledged (view self) (distance (self .base) x)) self (r .link) (r .answer) ⌝ }
     {
@@ -193,39 +194,32 @@ impl Link {
         if count < n as usize {
             return silent(self, NO_ENTRY);
         }
-        silent(self.without(n), DONE)
+        self = self.without(n);
+        silent(self, DONE)
     }
 
     // The link without its n oldest payloads.
-    fn without(self, n: u8) -> Link
+    fn without(mut self, n: u8) -> Link
         requires { ⌜ (wellFormed self ≡ true) × ((self .state ≡ State.Wait) × (n ≤ self .queue .count)) ⌝ }
         ensures { λ r. ⌜ view r ≡ without (view self) n ⌝ }
     {
         let old = self.queue;
         let q = old.remove(n as usize);
         let s = open_state(q.count);
-        let base = dlc_packet::advanced(self.base, n);
-        Link {
-            state: s,
-            queue: q,
-            base: base,
-            expected: self.expected,
-        }
+        self.queue = q;
+        self.base = dlc_packet::advanced(self.base, n);
+        self.in_state(s)
     }
 
     // The link with p queued behind the others.
-    fn with_payload(self, p: &[u8]) -> Link
+    fn with_payload(mut self, p: &[u8]) -> Link
         requires { ⌜ (wellFormed self ≡ true) × ((self .queue .count < slots) × (length (now p) ≤ maxPayload)) ⌝ }
         ensures { λ r. ⌜ view r ≡ withPayload (view self) (now (p .entry)) ⌝ }
     {
         let old = self.queue;
         let q = old.push(p);
-        Link {
-            state: State::Wait,
-            queue: q,
-            base: self.base,
-            expected: self.expected,
-        }
+        self.queue = q;
+        self.in_state(State::Wait)
     }
 
     // The timer while payloads wait: send all.
