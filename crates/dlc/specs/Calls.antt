@@ -39,7 +39,7 @@ pub record OneSent (l : Link) (c : ℕ) (upperReset delivered : Bool) (octet : �
   pub outcome : r ≡ given l (record { code = c; upperReset = upperReset; delivered = delivered; packets = (octet ∷ []) ∷ []; after = view l })
   pub reply : later ≡ withFront (octet ∷ []) before
 
--- L is a type of links, v its view: what the step table speaks of
+-- ---- over a type of links L and its view v, which gives the model that the step table speaks of
 -- what is given back where the effect is d, for the link l: its answer a, the link r after it, and on a refusal the very link that came
 pub record Returns {L : Type 0} (v : L → Model) (d : Effect) (l r : L) (a : Answer) : Type 0 where
   pub answer : a ≡ answerOf d

@@ -110,8 +110,7 @@ impl Link {
         requires { ⌜ (wellFormed self ≡ true) × (replySize ≤ length (now reply)) ⌝ }
         ensures { λ r. ⌜ Meets view (cleared (view self)) self (now (reply .entry)) (now (reply .exit)) (r .link) (r .answer) ⌝ }
     {
-        let mut q = self.queue;
-        q.count = 0;
+        let q = Queue::new();
         self.queue = q;
         self.base = 0;
         self.expected = 0;

@@ -1,19 +1,16 @@
 -- Every list of events has a history, from the start and from every world that a history reaches: the claim is not about nothing, and no
--- choice of outcomes gets stuck. The links given back here are values that the code can hold: 7 slots of 256 octets each.
+-- choice of outcomes gets stuck. The links given back here are values that the code can hold (dlc_queue/proofs/Values).
 -- For every type of links in which each `Link` has a value (`Covers`): `Link` itself, and the link in plain numbers. Assumes nothing.
-use Prim.Native.Nat.{ℕ, zero, suc, _-_, _≤_, _<_}
+use Prim.Native.Nat.{ℕ, suc, _≤_, _<_}
 use native.Mathlib.Omega.{arith}
 use mathlib.Core.Path.{_≡_, refl, sym, ap, subst, _∙_}
 use mathlib.Core.Bool.{Bool, true, false, _&&_, false≢true}
-use mathlib.Core.List.{List, [], _∷_, _++_, map, flatten}
-use lib.ListN.{length, replicate, length-map, length-append, length-replicate}
-use lib.Seq.{take-append-seam, take-at}
+use mathlib.Core.List.{List, [], _∷_, map, flatten}
+use lib.ListN.{length}
 use lib.Dec.{leb, ltb, eqb}
-use borrow.Author.Tests.{lt-ltb, le-leb, ltb-false, leb-false}
+use borrow.Author.Tests.{lt-ltb, ltb-false, leb-false}
 use Rattle.common.specs.Buffer.{withFront}
-use Rattle.dlc_queue.specs.declared.Payload.{Payload}
-use Rattle.dlc_queue.specs.declared.Queue.{Queue}
-use Rattle.dlc_queue.specs.Queue.{octetsOf, used, allShort, formed}
+use Rattle.dlc_queue.proofs.Values.{queueOf, Short as ShortQueue, payloads-queueOf, formed-queueOf}
 use Rattle.dlc.specs.declared.Link.{Link}
 use Rattle.dlc.specs.Limits.{modulus, slots, maxPayload, distance}
 use Rattle.dlc.specs.Answers.{payloadTooLong, queueFull, noEntry, replyTooSmall, refuses}
@@ -24,7 +21,7 @@ use Rattle.window.specs.Sides.{Side, left, right, Both}
 use Rattle.window.specs.Packets.{Packet, dataPdu, dackPdu}
 use Rattle.window.specs.Ends.{End as Peer, freed, acknowledges, withSender, accept, takeData}
 use Rattle.window.specs.Events.{fresh}
-use Rattle.window.proofs.InFlight.{All, all-++}
+use Rattle.window.proofs.InFlight.{All}
 use Rattle.dlc_pair.specs.World.{Octets, Packets, World, initial}
 use Rattle.dlc_pair.specs.History.{Act, payload, timer, start, arrival, loss, Event, Reply, GivenFront, Given, GivenAt, History, final}
 use Rattle.dlc_pair.specs.Rules.{rules}
@@ -34,78 +31,30 @@ use Rattle.dlc_pair.proofs.Effects.{fits-accept, fits-takeData, fits-fr
 use Rattle.dlc_pair.proofs.Steps.{tooShort}
 use Rattle.dlc_pair.proofs.Runs.{stepAt-follows, run-follows, follow-initial}
 
--- ---- a link for each end of the packet system, the free slots all 0
-abbrev pub slotOf : Octets → Payload
-slotOf p = record { len = length p; octets = p ++ replicate (maxPayload - length p) 0 }
-
-abbrev pub queueOf : Packets → Queue
-queueOf q = record { count = length q; slots = map slotOf q ++ replicate (slots - length q) (slotOf []) }
-
+-- ---- a link for each end of the packet system
 abbrev pub linkOf : Peer → Link
 linkOf a = record { state = stateOf (a .sender .queue); queue = queueOf (a .sender .queue); base = a .sender .base; expected = a .receiver .expected }
-
-used-queueOf : (q : Packets) → used (queueOf q) ≡ map slotOf q
-used-queueOf q = take-at (map slotOf q) (replicate (slots - length q) (slotOf [])) (length q) (length-map q slotOf)
-
-octets-slots : (q : Packets) → map octetsOf (map slotOf q) ≡ q
-octets-slots [] = refl
-octets-slots (p ∷ q) = λ i. take-append-seam p (replicate (maxPayload - length p) 0) i ∷ octets-slots q i
-
-slots-short : (q : Packets) → Short q → allShort (map slotOf q) ≡ true
-slots-short [] s = refl
-slots-short (p ∷ q) s = λ i. le-leb (length p) maxPayload (s .0) i && slots-short q (s .1) i
 
 state-fits : (q : Packets) (b x : ℕ) → stateFits (stateOf q) (length q) b x ≡ true
 state-fits [] b x = refl
 state-fits (p ∷ q) b x = lt-ltb 0 (suc (length q)) (omega arith)
 
-formed-queueOf : (q : Packets) → Short q → length q ≤ slots → formed (queueOf q) ≡ true
-unfolding formed
-formed-queueOf q s h = λ i. le-leb (length q) slots h i && (ap allShort (used-queueOf q) ∙ slots-short q s) i
+-- the same said of the queue's payloads
+short-queue : (q : Packets) → Short q → ShortQueue q
+short-queue [] s = tt
+short-queue (p ∷ q) s = (s .0, short-queue q (s .1))
 
 well-formed : (a : Peer) → Fits a → wellFormed (linkOf a) ≡ true
 unfolding wellFormed
 well-formed a f =
-    λ i. formed-queueOf (a .sender .queue) (f .short) (f .few) i
+    λ i. formed-queueOf (a .sender .queue) (short-queue (a .sender .queue) (f .short)) (f .few) i
     && (lt-ltb (a .sender .base) modulus (f .base) i
     && (lt-ltb (a .receiver .expected) modulus (f .expected) i && state-fits (a .sender .queue) (a .sender .base) (a .receiver .expected) i))
 
 pub view-linkOf : (a : Peer) → Fits a → view (linkOf a) ≡ modelOf a
 view-linkOf a f =
-    let q : map octetsOf (used (queueOf (a .sender .queue))) ≡ a .sender .queue =
-    ap (map octetsOf) (used-queueOf (a .sender .queue)) ∙ octets-slots (a .sender .queue) in
+    let q = payloads-queueOf (a .sender .queue) in
     λ i. record { ok = well-formed a f i; state = stateOf (a .sender .queue); queue = q i; base = a .sender .base; expected = a .receiver .expected }
-
--- the arrays have the lengths that the code's types give them
-pub length-slots : (a : Peer) → Fits a → length (linkOf a .queue .slots) ≡ slots
-length-slots a f =
-    let q = a .sender .queue in
-    omega (
-      arith,
-      length-append (map slotOf (a .sender .queue)) (replicate (slots - length (a .sender .queue)) (slotOf [])),
-      length-map (a .sender .queue) slotOf,
-      length-replicate (slots - length (a .sender .queue)) (slotOf []),
-      f .few,
-    )
-
-slot-length : (p : Octets) → length p ≤ maxPayload → length (slotOf p .octets) ≡ maxPayload
-slot-length p h = omega (arith, length-append p (replicate (maxPayload - length p) 0), length-replicate {A = ℕ} (maxPayload - length p) 0)
-
-abbrev pub Long : Payload → Type 0
-Long p = length (p .octets) ≡ maxPayload
-
-long-slots : (q : Packets) → Short q → All Long (map slotOf q)
-long-slots [] s = tt
-long-slots (p ∷ q) s = (slot-length p (s .0), long-slots q (s .1))
-
-long-free : (n : ℕ) → All Long (replicate n (slotOf []))
-long-free zero = tt
-long-free (suc n) = (slot-length [] (omega arith), long-free n)
-
-pub length-octets : (a : Peer) → Fits a → All Long (linkOf a .queue .slots)
-length-octets a f =
-    all-++ Long (map slotOf (a .sender .queue)) (replicate (slots - length (a .sender .queue)) (slotOf [])) (long-slots (a .sender .queue) (f .short))
-    (long-free (slots - length (a .sender .queue)))
 
 -- ---- what a call may give back: the very link on a refusal, else a link for the model after it
 pub data Possible {L : Type 0} (v : L → Model) (m : Model) (d : Effect) : Type 0 where

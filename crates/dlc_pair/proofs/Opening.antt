@@ -19,6 +19,7 @@ use Rattle.dlc.specs.Model.{Model, view, wellFormed, fresh, opened}
 use Rattle.dlc.specs.Events.{Effect, effect, cleared, startOf, timerOf, arrivalOf}
 use Rattle.dlc.specs.Calls.{Meets, StartCall, TimerCall, deliveredPart}
 use Rattle.dlc_queue.specs.Queue.{formed}
+use Rattle.dlc_queue.proofs.Values.{queueOf}
 use Rattle.window.specs.Sides.{left, right}
 use Rattle.window.specs.Events.{fresh as freshPeer}
 use Rattle.dlc_pair.specs.World.{Octets, Packets, isData, isDack, one, count, End, World, freshEnd, initial}
@@ -29,7 +30,7 @@ use Rattle.dlc_pair.specs.Progress.{Enough}
 use Rattle.dlc_pair.proofs.Codec.{count-++}
 use Rattle.dlc_pair.proofs.Relation.{copiedBy-packets, never-snoc, Follows}
 use Rattle.dlc_pair.proofs.Demand3.{demand-three-from}
-use Rattle.dlc_pair.proofs.Existence.{queueOf, Covers, moves, reply}
+use Rattle.dlc_pair.proofs.Existence.{Covers, moves, reply}
 
 -- ---- the effects of the four calls, where the reply buffer is large enough
 abbrev resetting : Model

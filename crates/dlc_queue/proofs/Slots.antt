@@ -1,5 +1,5 @@
 -- Laws of the slots in use: how many they are, and what a queue with one payload more or with some fewer holds. Assumes nothing.
-use Prim.Native.Nat.{ℕ, _+_, _-_, _<_, _≤_}
+use Prim.Native.Nat.{ℕ, _+_, _-_, _<_, _≤_, zero-le}
 use native.Mathlib.Numerals.{add-one}
 use native.Mathlib.Omega.{arith}
 use mathlib.Core.Path.{_≡_, refl, sym, ap, _∙_}
@@ -8,12 +8,16 @@ use mathlib.Core.List.{List, [], _∷_, _++_, map}
 use lib.ListN.{length, take, drop, set, length-map}
 use lib.Seq.{take-suc-set, length-take-le}
 use lib.Dec.{leb}
+use mir.Val.{Val}
+use denote.Laws.{Is}
 use borrow.Author.Tests.{le-leb, lt-leb, lt-ltb, le-ltb, leb-true}
 use Rattle.dlc_packet.specs.Packet.{maxPayload}
 use Rattle.dlc_queue.specs.declared.Payload.{Payload}
 use Rattle.dlc_queue.specs.declared.Queue.{Queue}
 use Rattle.dlc_queue.specs.Queue.{slots, octetsOf, used, payloads, allShort, formed, hasRoom, hasOldest, Pushed, Removed}
 use Rattle.dlc_queue.proofs.Lists.{map-drop, map-snoc}
+use Rattle.dlc_queue.proofs.Queue as Q
+use Rattle.dlc_queue.proofs.Shape.{slots-long}
 use Rattle.dlc_queue.proofs.Short.{both, short-snoc, short-drop}
 
 -- a test has one answer
@@ -46,6 +50,14 @@ module _ (q : Queue) where
   length-payloads long h =
       let k : q .count ≤ length (q .slots) = omega arith in
       length-map (used q) octetsOf ∙ length-take-le (q .count) (q .slots) k
+
+-- an empty queue
+pub empty-formed : (q : Queue) → q .count ≡ 0 → formed q ≡ true
+empty-formed q e = is-formed q (rw e zero-le) (rw e)
+
+-- of a queue that is owned, as many payloads as the count says
+pub length-owned : (q : Queue) (vs : List Val) → Is Q.the-row q vs → formed q ≡ true → length (payloads q) ≡ q .count
+length-owned q vs g e = length-payloads q (slots-long q vs g) (formed-count q e)
 
 -- the queue after push, in its three cases
 module _ (q : Queue) (p : List ℕ) where
