@@ -7,8 +7,8 @@ ghost use Rattle.qaft_read.specs.State.{fresh};
 ghost use Rattle.qaft_read.specs.Read.{read};
 ghost use Rattle.desk.specs.Reading.{inNumbers};
 ghost use Rattle.dlc.specs.Model.{fresh as freshLink};
+ghost use Rattle.dlc.specs.Calls.{StartCall, TimerCall, PayloadCall, ArrivalCall};
 ghost use Rattle.dlc_plain.specs.Plain.{view};
-ghost use Rattle.dlc_plain.specs.PlainCalls.{StartCall, TimerCall, PayloadCall, ArrivalCall};
 ghost use Rattle.sums.specs.Sum.{sumFrom, nextStationSum, headerSum};
 ghost use Rattle.fcs.specs.Fcs.{checkSequence};
 ghost use Rattle.afp.specs.Reading.{readOf};
@@ -83,7 +83,7 @@ pub extern "C" fn hasfandur_dlc_start(
     link: dlc_plain::PlainLink,
     reply: &mut [u8],
 ) -> dlc_plain::PlainOutcome
-    ensures { λ r. ⌜ StartCall link (now (reply .entry)) (now (reply .exit)) r ⌝ }
+    ensures { λ r. ⌜ StartCall view link (now (reply .entry)) (now (reply .exit)) (r .link) (r .answer) ⌝ }
 {
     link.start(reply)
 }
@@ -93,7 +93,7 @@ pub extern "C" fn hasfandur_dlc_timer(
     link: dlc_plain::PlainLink,
     reply: &mut [u8],
 ) -> dlc_plain::PlainOutcome
-    ensures { λ r. ⌜ TimerCall link (now (reply .entry)) (now (reply .exit)) r ⌝ }
+    ensures { λ r. ⌜ TimerCall view link (now (reply .entry)) (now (reply .exit)) (r .link) (r .answer) ⌝ }
 {
     link.timer(reply)
 }
@@ -104,7 +104,7 @@ pub extern "C" fn hasfandur_dlc_payload(
     payload: &[u8],
     reply: &mut [u8],
 ) -> dlc_plain::PlainOutcome
-    ensures { λ r. ⌜ PayloadCall link (now (payload .entry)) (now (reply .entry)) (now (reply .exit)) r ⌝ }
+    ensures { λ r. ⌜ PayloadCall view link (now (payload .entry)) (now (reply .entry)) (now (reply .exit)) (r .link) (r .answer) ⌝ }
 {
     link.payload(payload, reply)
 }
@@ -115,7 +115,7 @@ pub extern "C" fn hasfandur_dlc_arrival(
     packet: &[u8],
     reply: &mut [u8],
 ) -> dlc_plain::PlainOutcome
-    ensures { λ r. ⌜ ArrivalCall link (now (packet .entry)) (now (reply .entry)) (now (reply .exit)) r ⌝ }
+    ensures { λ r. ⌜ ArrivalCall view link (now (packet .entry)) (now (reply .entry)) (now (reply .exit)) (r .link) (r .answer) ⌝ }
 {
     link.arrival(packet, reply)
 }

@@ -15,6 +15,7 @@ use Rattle.dlc_queue.proofs.Sending.{sent-all, length-dataPackets}
 use Rattle.dlc.specs.declared.State.{State}
 use Rattle.dlc.specs.declared.State.the-variants.{Idle, Reset, Data, Wait}
 use Rattle.dlc.specs.declared.Link.{Link}
+use Rattle.dlc.specs.declared.Answer.{Answer}
 use Rattle.dlc.specs.declared.Outcome.{Outcome}
 use Rattle.dlc.specs.Answers.{done, noEntry, otherNumber, refuses}
 use Rattle.dlc.specs.Model.{Model, view, wellFormed}
@@ -25,29 +26,29 @@ use Rattle.dlc.proofs.Parts.{parts}
 -- ---- nothing sent
 module _ (d : Effect) (l : Link) (c : ℕ) (r : Outcome) where
   -- a refusal: the link as it came
-  pub refused-returns : d ≡ refuse (view l) c → r ≡ given l (effect c [] (view l)) → Returns d l r
+  pub refused-returns : d ≡ refuse (view l) c → r ≡ given l (effect c [] (view l)) → Returns view d l (r .link) (r .answer)
   refused-returns e f = rw (e, f) (record { answer = refl; link = refl; kept = λ t. refl })
 
-  pub refused-meets : (m : List ℕ) → d ≡ refuse (view l) c → r ≡ given l (effect c [] (view l)) → Meets d l m m r
+  pub refused-meets : (m : List ℕ) → d ≡ refuse (view l) c → r ≡ given l (effect c [] (view l)) → Meets view d l m m (r .link) (r .answer)
   unfolding flatten
   refused-meets m e f = record { returns = refused-returns e f; reply = rw e }
 
 -- done, with another link
-pub done-returns : (d : Effect) (l l′ : Link) (m : Model) (r : Outcome) → d ≡ effect done [] m → view l′ ≡ m → r ≡ given l′ (effect done [] (view l′)) → Returns d l r
+pub done-returns : (d : Effect) (l l′ : Link) (m : Model) (r : Outcome) → d ≡ effect done [] m → view l′ ≡ m → r ≡ given l′ (effect done [] (view l′)) → Returns view d l (r .link) (r .answer)
 done-returns d l l′ m r e v f = rw (e, f) (record { answer = refl; link = v; kept = λ t. absurd (false≢true t) })
 
-pub done-meets : (d : Effect) (l l′ : Link) (m : Model) (s : List ℕ) (r : Outcome) → d ≡ effect done [] m → view l′ ≡ m → r ≡ given l′ (effect done [] (view l′)) → Meets d l s s r
+pub done-meets : (d : Effect) (l l′ : Link) (m : Model) (s : List ℕ) (r : Outcome) → d ≡ effect done [] m → view l′ ≡ m → r ≡ given l′ (effect done [] (view l′)) → Meets view d l s s (r .link) (r .answer)
 unfolding flatten
 done-meets d l l′ m s r e v f = record { returns = done-returns d l l′ m r e v f; reply = rw e }
 
-pub silent-meets : (d : Effect) (l : Link) (m : List ℕ) (r : Outcome) → d .packets ≡ [] → Returns d l r → Meets d l m m r
+pub silent-meets : {d : Effect} {l r : Link} {a : Answer} {m : List ℕ} → d .packets ≡ [] → Returns view d l r a → Meets view d l m m r a
 unfolding flatten
-silent-meets d l m r e g = record { returns = g; reply = rw e }
+silent-meets e g = record { returns = g; reply = rw e }
 
 -- ---- one packet of one octet
 pub one-meets : (d : Effect) (l l′ : Link) (octet : ℕ) (before later : List ℕ) (r : Outcome) → refuses (d .code) ≡ false → d .packets ≡ (octet ∷ []) ∷ [] → view l′ ≡ d .after
     → OneSent l′ (d .code) (d .upperReset) (d .delivered) octet before later r
-    → Meets d l before later r
+    → Meets view d l before later (r .link) (r .answer)
 unfolding flatten
 one-meets d l l′ octet before later r n e v s =
     rw (s .outcome) (record {
@@ -58,10 +59,8 @@ one-meets d l l′ octet before later r n e v s =
 -- ---- the whole queue
 pub all-meets : (l : Link) (before later lengths : List ℕ) → wellFormed l ≡ true → length (view l .queue) ≡ l .queue .count → replySize ≤ length before
     → Sent (l .queue) (l .base) before later lengths
-    → Meets (timerStep (view l) Wait) l before later (record {
-      link = l;
-      answer = record { code = done; «upper_reset» = false; delivered = false; sent = l .queue .count; lengths = lengths };
-    })
+    → Meets view (timerStep (view l) Wait) l before later l
+    (record { code = done; «upper_reset» = false; delivered = false; sent = l .queue .count; lengths = lengths })
 all-meets l before later lengths w n room s =
     let g = parts l w in
     let e = sent-all (l .queue) (l .base) before (g .queue) (g .base) room in
@@ -78,11 +77,11 @@ all-meets l before later lengths w n room s =
     }
 
 -- ---- an effect under another name
-pub meets-by : (d e : Effect) (l : Link) (before later : List ℕ) (r : Outcome) → d ≡ e → Meets e l before later r → Meets d l before later r
-meets-by d e l before later r p g = rw p g
+pub meets-by : {d e : Effect} {l r : Link} {before later : List ℕ} {a : Answer} → d ≡ e → Meets view e l before later r a → Meets view d l before later r a
+meets-by p g = rw p g
 
-pub returns-by : (d e : Effect) (l : Link) (r : Outcome) → d ≡ e → Returns e l r → Returns d l r
-returns-by d e l r p g = rw p g
+pub returns-by : {d e : Effect} {l r : Link} {a : Answer} → d ≡ e → Returns view e l r a → Returns view d l r a
+returns-by p g = rw p g
 
 -- ---- rows of the table
 -- DATA with the expected number, and with another

@@ -11,8 +11,7 @@ use borrow.Author.Tests.{lt-ltb, le-ltb, ltb-true}
 use Rattle.dlc_packet.specs.Numbers.{modulus}
 use Rattle.dlc_queue.specs.Queue.{payloads, formed}
 use Rattle.dlc_queue.proofs.Short.{both}
-use Rattle.dlc_queue.proofs.Shape.{slots-long}
-use Rattle.dlc_queue.proofs.Slots.{formed-count, length-payloads}
+use Rattle.dlc_queue.proofs.Slots.{length-owned}
 use Rattle.dlc.specs.declared.State.{State}
 use Rattle.dlc.specs.declared.State.the-variants.{Idle, Reset, Data, Wait}
 use Rattle.dlc.specs.declared.Link.{Link}
@@ -74,4 +73,4 @@ reset-fits s n b e h f = both (eqb n 0) (eqb b 0 && eqb e 0) (rw h at f) .0
 
 -- as many payloads as the queue counts
 pub length-queue : (l : Link) (vs : List Val) → Is L.the-row l vs → wellFormed l ≡ true → length (payloads (l .queue)) ≡ l .queue .count
-length-queue l vs g e = length-payloads (l .queue) (slots-long (l .queue) _ (g .1 .1 .1 .0)) (formed-count (l .queue) (parts l e .queue))
+length-queue l vs g e = length-owned (l .queue) _ (g .1 .1 .1 .0) (parts l e .queue)

@@ -13,9 +13,8 @@ use Rattle.dlc_packet.specs.declared.Kind.{Kind}
 use Rattle.dlc_packet.specs.declared.Kind.the-variants.{Invalid, Reset as ResetKind, ResetAck, Data as DataKind, Dack}
 use Rattle.dlc.specs.declared.State.{State}
 use Rattle.dlc.specs.declared.State.the-variants.{Idle, Reset, Data, Wait}
-use Rattle.dlc.specs.declared.Link.{Link}
-use Rattle.dlc.specs.declared.Outcome.{Outcome}
-use Rattle.dlc.specs.Model.{Model, view, wellFormed}
+use Rattle.dlc.specs.declared.Answer.{Answer}
+use Rattle.dlc.specs.Model.{Model}
 use Rattle.dlc.specs.Events.{Effect, refuse, startStep, resetAckStep, judged, dataStep, dackStep, timerStep, queued}
 use Rattle.dlc.specs.Events.{callRefusals, payloadRefusals, startOf, timerOf, payloadOf, packetStep, arrivalOf}
 use Rattle.dlc.specs.Calls.{Meets, StartCall, TimerCall, PayloadCall, ArrivalCall}
@@ -71,23 +70,24 @@ module _ (m : Model) where
   packet-keeps (DataKind x) = data-keeps (m .state) x
   packet-keeps (Dack x) = dack-keeps (m .state) x
 
-module _ (l : Link) (ok : wellFormed l ≡ true) (before later : List ℕ) (r : Outcome) where
-  formed-after : (d : Effect) → d .after .ok ≡ view l .ok → Meets d l before later r → wellFormed (r .link) ≡ true
+-- for every type of links and its view; of a `Link`, `view l .ok` is `wellFormed l`
+module _ {L : Type 0} (v : L → Model) (l : L) (ok : v l .ok ≡ true) (before later : List ℕ) (r : L) (a : Answer) where
+  formed-after : (d : Effect) → d .after .ok ≡ v l .ok → Meets v d l before later r a → v r .ok ≡ true
   formed-after d e c = ap (λ (m : Model). m .ok) (c .returns .link) ∙ e ∙ ok
 
-  pub start-formed : StartCall l before later r → wellFormed (r .link) ≡ true
+  pub start-formed : StartCall v l before later r a → v r .ok ≡ true
   unfolding startOf
-  start-formed c = formed-after _ (guarded-keeps (view l) (callRefusals (view l) (length before)) (startStep (view l) (l .state)) (start-keeps (view l) (l .state))) c
+  start-formed c = formed-after _ (guarded-keeps (v l) (callRefusals (v l) (length before)) (startStep (v l) (v l .state)) (start-keeps (v l) (v l .state))) c
 
-  pub timer-formed : TimerCall l before later r → wellFormed (r .link) ≡ true
+  pub timer-formed : TimerCall v l before later r a → v r .ok ≡ true
   unfolding timerOf
-  timer-formed c = formed-after _ (guarded-keeps (view l) (callRefusals (view l) (length before)) (timerStep (view l) (l .state)) (timer-keeps (view l) (l .state))) c
+  timer-formed c = formed-after _ (guarded-keeps (v l) (callRefusals (v l) (length before)) (timerStep (v l) (v l .state)) (timer-keeps (v l) (v l .state))) c
 
-  pub payload-formed : (p : List ℕ) → PayloadCall l p before later r → wellFormed (r .link) ≡ true
+  pub payload-formed : (p : List ℕ) → PayloadCall v l p before later r a → v r .ok ≡ true
   unfolding payloadOf
-  payload-formed p c = formed-after _ (guarded-keeps (view l) (callRefusals (view l) (length before) ++ payloadRefusals (view l) p) (queued (view l) p) refl) c
+  payload-formed p c = formed-after _ (guarded-keeps (v l) (callRefusals (v l) (length before) ++ payloadRefusals (v l) p) (queued (v l) p) refl) c
 
-  pub arrival-formed : (packet : List ℕ) → ArrivalCall l packet before later r → wellFormed (r .link) ≡ true
+  pub arrival-formed : (packet : List ℕ) → ArrivalCall v l packet before later r a → v r .ok ≡ true
   unfolding arrivalOf
   arrival-formed packet c =
-      formed-after _ (guarded-keeps (view l) (callRefusals (view l) (length before)) (packetStep (view l) (kindOf packet)) (packet-keeps (view l) (kindOf packet))) c
+      formed-after _ (guarded-keeps (v l) (callRefusals (v l) (length before)) (packetStep (v l) (kindOf packet)) (packet-keeps (v l) (kindOf packet))) c

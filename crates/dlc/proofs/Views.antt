@@ -1,5 +1,5 @@
 -- What the link's own functions make of a view. Assumes nothing.
-use Prim.Native.Nat.{ℕ, zero, suc, _+_, _-_, _<_, _≤_, zero-le}
+use Prim.Native.Nat.{ℕ, zero, suc, _+_, _-_, _<_, _≤_}
 use native.Mathlib.Omega.{arith}
 use mathlib.Core.Path.{_≡_, refl, sym, _∙_}
 use mathlib.Core.Bool.{true, cond}
@@ -10,8 +10,8 @@ use borrow.Author.Tests.{lt-ltb, ne-eqb}
 use Rattle.dlc_packet.specs.Numbers.{advance}
 use Rattle.dlc_packet.specs.Packet.{maxPayload}
 use Rattle.dlc_queue.specs.declared.Queue.{Queue}
-use Rattle.dlc_queue.specs.Queue.{slots, payloads, formed, Pushed, Removed}
-use Rattle.dlc_queue.proofs.Slots.{is-formed, push-count, push-payloads, remove-count, remove-payloads, remove-formed}
+use Rattle.dlc_queue.specs.Queue.{slots, payloads, Pushed, Removed}
+use Rattle.dlc_queue.proofs.Slots.{empty-formed, push-count, push-payloads, push-formed, remove-count, remove-payloads, remove-formed}
 use Rattle.dlc.specs.declared.State.{State}
 use Rattle.dlc.specs.declared.State.the-variants.{Idle, Data, Wait}
 use Rattle.dlc.specs.declared.Link.{Link}
@@ -27,25 +27,19 @@ link s q b e = record { state = s; queue = q; base = b; expected = e }
 kept : (l l′ : Link) → wellFormed l ≡ true → Parts l′ → wellFormed l′ ≡ wellFormed l
 kept l l′ w g = whole l′ g ∙ sym w
 
--- an empty queue
-empty-formed : (q : Queue) → q .count ≡ 0 → formed q ≡ true
-empty-formed q e = is-formed q (rw e zero-le) (rw e)
-
-pub view-fresh : (q : Queue) → q .count ≡ 0 → view (link Idle q 0 0) ≡ fresh
-view-fresh q e =
+pub view-fresh : (q : Queue) → q .count ≡ 0 → payloads q ≡ [] → view (link Idle q 0 0) ≡ fresh
+view-fresh q e p =
     let w : wellFormed (link Idle q 0 0) ≡ true =
     whole (link Idle q 0 0) (record { queue = empty-formed q e; base = omega arith; expected = omega arith; state = rw e }) in
-    let p : payloads q ≡ [] = rw e in
     λ i. record { ok = w i; state = Idle; queue = p i; base = 0; expected = 0 }
 
 module _ (l : Link) (w : wellFormed l ≡ true) where
-  -- RESET leaves the slots as they are, and counts none
-  pub view-cleared : (q : Queue) → q .count ≡ 0
+  -- RESET leaves an empty queue
+  pub view-cleared : (q : Queue) → q .count ≡ 0 → payloads q ≡ []
       → view (link Data q 0 0) ≡ record { ok = view l .ok; state = Data; queue = []; base = 0; expected = 0 }
-  view-cleared q e =
+  view-cleared q e p =
       let v : wellFormed (link Data q 0 0) ≡ wellFormed l =
       kept l (link Data q 0 0) w (record { queue = empty-formed q e; base = omega arith; expected = omega arith; state = rw e }) in
-      let p : payloads q ≡ [] = rw e in
       λ i. record { ok = v i; state = Data; queue = p i; base = 0; expected = 0 }
 
   -- start and RESET_ACK: only the state changes
@@ -71,7 +65,7 @@ module _ (l : Link) (w : wellFormed l ≡ true) where
       let n : q .count ≡ l .queue .count + 1 = push-count (l .queue) q (g .queue) p h k m in
       let ps = push-payloads (l .queue) q (g .queue) p h k m in
       let f : ltb 0 (q .count) ≡ true = lt-ltb 0 (q .count) (omega (arith, n)) in
-      let v = kept l (link Wait q (l .base) (l .expected)) w (record { queue = m .formed ∙ g .queue; base = g .base; expected = g .expected; state = f }) in
+      let v = kept l (link Wait q (l .base) (l .expected)) w (record { queue = push-formed (l .queue) q (g .queue) p h k m; base = g .base; expected = g .expected; state = f }) in
       λ i. record { ok = v i; state = Wait; queue = ps i; base = l .base; expected = l .expected }
 
 -- the state of an open link by its queue, and by how many payloads it counts

@@ -2,9 +2,10 @@
 --
 --   StartCall, TimerCall, PayloadCall, ArrivalCall     the contracts of the four events
 --
--- Each takes the link that came, what was lent, the reply buffer before and after the call, and what was given back. Answer, later link and later buffer
--- are equations with the step table. Free slots of the later queue (octets and lengths behind its payloads) are whatever they are, but on a refusal,
--- where the very link that came is given back; no answer depends on them (proofs/FreeSlots.antt).
+-- Each is over a type of links and its view: `Link` with `view` here, the link in plain numbers in dlc_plain. It takes the link that came, what was
+-- lent, the reply buffer before and after the call, and the link and the answer given back. Answer, later link and later buffer are equations with
+-- the step table. Free slots of the later queue (octets and lengths behind its payloads) are whatever they are, but on a refusal, where the very
+-- link that came is given back; no answer depends on them (proofs/FreeSlots.antt).
 use Prim.Native.Nat.{ℕ}
 use mathlib.Core.Path.{_≡_}
 use mathlib.Core.Bool.{Bool, true, cond}
@@ -16,7 +17,7 @@ use Rattle.dlc.specs.declared.Link.{Link}
 use Rattle.dlc.specs.declared.Answer.{Answer}
 use Rattle.dlc.specs.declared.Outcome.{Outcome}
 use Rattle.dlc.specs.Answers.{refuses}
-use Rattle.dlc.specs.Model.{view}
+use Rattle.dlc.specs.Model.{Model, view}
 use Rattle.dlc.specs.Events.{Effect, startOf, timerOf, payloadOf, arrivalOf}
 
 -- the answer that says an effect: with its packets' number and lengths
@@ -38,28 +39,29 @@ pub record OneSent (l : Link) (c : ℕ) (upperReset delivered : Bool) (octet : �
   pub outcome : r ≡ given l (record { code = c; upperReset = upperReset; delivered = delivered; packets = (octet ∷ []) ∷ []; after = view l })
   pub reply : later ≡ withFront (octet ∷ []) before
 
--- what is given back where the effect is d: its answer, the link after it, and on a refusal the very link that came
-pub record Returns (d : Effect) (l : Link) (r : Outcome) : Type 0 where
-  pub answer : r .answer ≡ answerOf d
-  pub link : view (r .link) ≡ d .after
-  pub kept : refuses (d .code) ≡ true → r .link ≡ l
+-- ---- over a type of links L and its view v, which gives the model that the step table speaks of
+-- what is given back where the effect is d, for the link l: its answer a, the link r after it, and on a refusal the very link that came
+pub record Returns {L : Type 0} (v : L → Model) (d : Effect) (l r : L) (a : Answer) : Type 0 where
+  pub answer : a ≡ answerOf d
+  pub link : v r ≡ d .after
+  pub kept : refuses (d .code) ≡ true → r ≡ l
 
 -- and the reply buffer: the packets one after another at its front, the rest as before
-pub record Meets (d : Effect) (l : Link) (before later : List ℕ) (r : Outcome) : Type 0 where
-  pub returns : Returns d l r
+pub record Meets {L : Type 0} (v : L → Model) (d : Effect) (l : L) (before later : List ℕ) (r : L) (a : Answer) : Type 0 where
+  pub returns : Returns v d l r a
   pub reply : later ≡ withFront (flatten (d .packets)) before
 
-abbrev pub StartCall : Link → List ℕ → List ℕ → Outcome → Type 0
-StartCall l before later r = Meets (startOf (view l) (length before)) l before later r
+abbrev pub StartCall : {L : Type 0} → (L → Model) → L → List ℕ → List ℕ → L → Answer → Type 0
+StartCall v l before later r a = Meets v (startOf (v l) (length before)) l before later r a
 
-abbrev pub TimerCall : Link → List ℕ → List ℕ → Outcome → Type 0
-TimerCall l before later r = Meets (timerOf (view l) (length before)) l before later r
+abbrev pub TimerCall : {L : Type 0} → (L → Model) → L → List ℕ → List ℕ → L → Answer → Type 0
+TimerCall v l before later r a = Meets v (timerOf (v l) (length before)) l before later r a
 
-abbrev pub PayloadCall : Link → List ℕ → List ℕ → List ℕ → Outcome → Type 0
-PayloadCall l p before later r = Meets (payloadOf (view l) p (length before)) l before later r
+abbrev pub PayloadCall : {L : Type 0} → (L → Model) → L → List ℕ → List ℕ → List ℕ → L → Answer → Type 0
+PayloadCall v l p before later r a = Meets v (payloadOf (v l) p (length before)) l before later r a
 
-abbrev pub ArrivalCall : Link → List ℕ → List ℕ → List ℕ → Outcome → Type 0
-ArrivalCall l packet before later r = Meets (arrivalOf (view l) packet (length before)) l before later r
+abbrev pub ArrivalCall : {L : Type 0} → (L → Model) → L → List ℕ → List ℕ → List ℕ → L → Answer → Type 0
+ArrivalCall v l packet before later r a = Meets v (arrivalOf (v l) packet (length before)) l before later r a
 
 -- the payload that an arrival delivers, as a part of the lent packet: all behind the control octet, or nothing
 abbrev pub deliveredPart : Bool → List ℕ → List ℕ

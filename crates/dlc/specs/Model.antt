@@ -1,7 +1,8 @@
 -- A link as the paper has it: state, queue, the number of the oldest payload and the expected one. Cited by the step table and the link's functions. Assumes nothing.
 --
 --   Model     what the step table speaks of
---   view l    the model of a link value: all of it but the free slots, on which no answer depends (proofs/FreeSlots.antt)
+--   view l    the model of a link value: of a well-formed one all but the free slots, on which no answer depends (proofs/FreeSlots.antt);
+--             any other is seen as ill formed, which is all that its answers depend on
 use Prim.Native.Nat.{ℕ}
 use mathlib.Core.Bool.{Bool, true, _&&_}
 use mathlib.Core.List.{List, []}

@@ -6,17 +6,17 @@ ghost use Rattle.dlc.specs.Answers.{done};
 ghost use Rattle.dlc.specs.Model.{view};
 ghost use Rattle.dlc.specs.Events.{callRefusals};
 ghost use Rattle.dlc.specs.Calls.{StartCall, TimerCall, PayloadCall, ArrivalCall};
+use crate::BAD_LINK;
 use crate::BAD_PACKET;
 use crate::DONE;
-use crate::ILL_FORMED;
 use crate::Link;
 use crate::NO_ENTRY;
 use crate::NOT_OPEN;
 use crate::Outcome;
+use crate::PAYLOAD_TOO_LONG;
 use crate::QUEUE_FULL;
-use crate::SHORT_REPLY;
+use crate::REPLY_TOO_SMALL;
 use crate::State;
-use crate::TOO_LONG;
 use crate::is_open;
 use crate::send_one;
 use crate::silent;
@@ -25,7 +25,7 @@ use dlc_packet::Kind;
 impl Link {
     // The upper layer starts the link.
     pub fn start(mut self, reply: &mut [u8]) -> Outcome
-        ensures { λ r. ⌜ StartCall self (now (reply .entry)) (now (reply .exit)) r ⌝ }
+        ensures { λ r. ⌜ StartCall view self (now (reply .entry)) (now (reply .exit)) (r .link) (r .answer) ⌝ }
     {
         let c = self.refusal(reply.len());
         if c != DONE {
@@ -33,7 +33,10 @@ impl Link {
         }
         let s = self.state;
         match s {
-            State::Idle => silent(self.in_state(State::Reset), DONE),
+            State::Idle => {
+                self = self.in_state(State::Reset);
+                silent(self, DONE)
+            }
             State::Reset => silent(self, NO_ENTRY),
             State::Data => silent(self, NO_ENTRY),
             State::Wait => silent(self, NO_ENTRY),
@@ -42,7 +45,7 @@ impl Link {
 
     // The timer runs out.
     pub fn timer(mut self, reply: &mut [u8]) -> Outcome
-        ensures { λ r. ⌜ TimerCall self (now (reply .entry)) (now (reply .exit)) r ⌝ }
+        ensures { λ r. ⌜ TimerCall view self (now (reply .entry)) (now (reply .exit)) (r .link) (r .answer) ⌝ }
     {
         let c = self.refusal(reply.len());
         if c != DONE {
@@ -59,14 +62,14 @@ impl Link {
 
     // The upper layer hands a payload down.
     pub fn payload(mut self, p: &[u8], reply: &mut [u8]) -> Outcome
-        ensures { λ r. ⌜ PayloadCall self (now (p .entry)) (now (reply .entry)) (now (reply .exit)) r ⌝ }
+        ensures { λ r. ⌜ PayloadCall view self (now (p .entry)) (now (reply .entry)) (now (reply .exit)) (r .link) (r .answer) ⌝ }
     {
         let c = self.refusal(reply.len());
         if c != DONE {
             return silent(self, c);
         }
         if Link::MAX_PAYLOAD < p.len() {
-            return silent(self, TOO_LONG);
+            return silent(self, PAYLOAD_TOO_LONG);
         }
         let s = self.state;
         if is_open(s) {
@@ -75,7 +78,8 @@ impl Link {
             if Link::SLOTS <= n {
                 return silent(self, QUEUE_FULL);
             }
-            silent(self.with_payload(p), DONE)
+            self = self.with_payload(p);
+            silent(self, DONE)
         } else {
             silent(self, NOT_OPEN)
         }
@@ -83,7 +87,7 @@ impl Link {
 
     // A packet arrives.
     pub fn arrival(mut self, packet: &[u8], reply: &mut [u8]) -> Outcome
-        ensures { λ r. ⌜ ArrivalCall self (now (packet .entry)) (now (reply .entry)) (now (reply .exit)) r ⌝ }
+        ensures { λ r. ⌜ ArrivalCall view self (now (packet .entry)) (now (reply .entry)) (now (reply .exit)) (r .link) (r .answer) ⌝ }
     {
         let c = self.refusal(reply.len());
         if c != DONE {
@@ -99,18 +103,18 @@ impl Link {
         }
     }
 
-    // The refusal that all calls share: ILL_FORMED, then SHORT_REPLY; DONE where neither applies.
+    // The refusal that all calls share: BAD_LINK, then REPLY_TOO_SMALL; DONE where neither applies.
     fn refusal(self, room: usize) -> u8
         ensures { λ r. ⌜ r ≡ guarded (callRefusals (view self) room) (λ n. n) done ⌝ }
     {
         if self.well_formed() {
             if room < Link::REPLY {
-                SHORT_REPLY
+                REPLY_TOO_SMALL
             } else {
                 DONE
             }
         } else {
-            ILL_FORMED
+            BAD_LINK
         }
     }
 }

@@ -23,7 +23,7 @@ pub const DONE: u8 = 0;
 
 pub const NOT_OPEN: u8 = 20;
 
-pub const TOO_LONG: u8 = 21;
+pub const PAYLOAD_TOO_LONG: u8 = 21;
 
 pub const QUEUE_FULL: u8 = 22;
 
@@ -33,9 +33,9 @@ pub const NO_ENTRY: u8 = 24;
 
 pub const OTHER_NUMBER: u8 = 25;
 
-pub const SHORT_REPLY: u8 = 26;
+pub const REPLY_TOO_SMALL: u8 = 26;
 
-pub const ILL_FORMED: u8 = 27;
+pub const BAD_LINK: u8 = 27;
 
 // DLIDLE, DLRESET, DLDATA, DLDWAIT
 pub enum State {
@@ -45,7 +45,7 @@ pub enum State {
     Wait,
 }
 
-// A link; any value of this type may be handed to an event, which answers ILL_FORMED where it is none.
+// A link; any value of this type may be handed to an event, which answers BAD_LINK where it is none.
 pub struct Link {
     pub state: State,
     pub queue: Queue,
@@ -92,7 +92,7 @@ impl Link {
         }
     }
 
-    // The link in another state.
+    // The link in another state. A field that is an enum can't be set, so the struct is made anew.
     fn in_state(self, s: State) -> Link
         ensures { λ r. ⌜ r ≡ record { state = s; queue = self .queue; base = self .base; expected = self .expected } ⌝ }
     {
@@ -106,30 +106,30 @@ impl Link {
     }
 
     // RESET: clear.
-    fn clear(self, reply: &mut [u8]) -> Outcome
+    fn clear(mut self, reply: &mut [u8]) -> Outcome
         requires { ⌜ (wellFormed self ≡ true) × (replySize ≤ length (now reply)) ⌝ }
-        ensures { λ r. ⌜ Meets (cleared (view self)) self (now (reply .entry)) (now (reply .exit)) r ⌝ }
+        ensures { λ r. ⌜ Meets view (cleared (view self)) self (now (reply .entry)) (now (reply .exit)) (r .link) (r .answer) ⌝ }
     {
-        let mut q = self.queue;
-        q.count = 0;
-        let l = Link {
-            state: State::Data,
-            queue: q,
-            base: 0,
-            expected: 0,
-        };
-        send_one(l, DONE, true, false, dlc_packet::RESET_ACK, reply)
+        let q = Queue::new();
+        self.queue = q;
+        self.base = 0;
+        self.expected = 0;
+        self = self.in_state(State::Data);
+        send_one(self, DONE, true, false, dlc_packet::RESET_ACK, reply)
     }
 
     // RESET_ACK opens a link that waits for it.
-    fn reset_ack(self) -> Outcome
+    fn reset_ack(mut self) -> Outcome
         requires { ⌜ wellFormed self ≡ true ⌝ }
-        ensures { λ r. ⌜ Returns (resetAckStep (view self) (self .state)) self r ⌝ }
+        ensures { λ r. ⌜ Returns view (resetAckStep (view self) (self .state)) self (r .link) (r .answer) ⌝ }
     {
         let s = self.state;
         match s {
             State::Idle => silent(self, NO_ENTRY),
-            State::Reset => silent(self.in_state(State::Data), DONE),
+            State::Reset => {
+                self = self.in_state(State::Data);
+                silent(self, DONE)
+            }
             State::Data => silent(self, NO_ENTRY),
             State::Wait => silent(self, NO_ENTRY),
         }
@@ -138,7 +138,7 @@ impl Link {
     // DATA x at a link in any state.
     fn data(self, x: u8, reply: &mut [u8]) -> Outcome
         requires { ⌜ (wellFormed self ≡ true) × (replySize ≤ length (now reply)) ⌝ }
-        ensures { λ r. ⌜ Meets (dataStep (view self) (self .state) x) self (now (reply .entry)) (now (reply .exit)) r ⌝ }
+        ensures { λ r. ⌜ Meets view (dataStep (view self) (self .state) x) self (now (reply .entry)) (now (reply .exit)) (r .link) (r .answer) ⌝ }
     {
         let s = self.state;
         if is_open(s) {
@@ -151,7 +151,7 @@ impl Link {
     // DATA x at an open link: judge. A repeated DATA is answered too: if its DACK was lost, the sender repeats until one comes.
     fn judge(mut self, x: u8, reply: &mut [u8]) -> Outcome
         requires { ⌜ (wellFormed self ≡ true) × ((isOpen (self .state) ≡ true) × (replySize ≤ length (now reply))) ⌝ }
-        ensures { λ r. ⌜ Meets (judged (view self) x) self (now (reply .entry)) (now (reply .exit)) r ⌝ }
+        ensures { λ r. ⌜ Meets view (judged (view self) x) self (now (reply .entry)) (now (reply .exit)) (r .link) (r .answer) ⌝ }
     {
         let expected = self.expected;
         if x == expected {
@@ -168,7 +168,7 @@ impl Link {
     // DACK x at a link in any state.
     fn dack(self, x: u8) -> Outcome
         requires { ⌜ wellFormed self ≡ true ⌝ }
-        ensures { λ r. ⌜ Returns (dackStep (view self) (self .state) x) self r ⌝ }
+        ensures { λ r. ⌜ Returns view (dackStep (view self) (self .state) x) self (r .link) (r .answer) ⌝ }
     {
         let s = self.state;
         match s {
@@ -180,9 +180,9 @@ impl Link {
     }
 
     // DACK x while payloads wait: remove.
-    fn acknowledge(self, x: u8) -> Outcome
+    fn acknowledge(mut self, x: u8) -> Outcome
         requires { ⌜ (wellFormed self ≡ true) × (self .state ≡ State.Wait) ⌝ }
-        ensures { λ r. ⌜ Returns (acknowledged (view self) (distance (self .base) x)) self r ⌝ }
+        ensures { λ r. ⌜ Returns view (acknowledged (view self) (distance (self .base) x)) self (r .link) (r .answer) ⌝ }
     {
         let q = self.queue;
         let n = dlc_packet::dack_distance(self.base, x);
@@ -193,45 +193,38 @@ impl Link {
         if count < n as usize {
             return silent(self, NO_ENTRY);
         }
-        silent(self.without(n), DONE)
+        self = self.without(n);
+        silent(self, DONE)
     }
 
     // The link without its n oldest payloads.
-    fn without(self, n: u8) -> Link
+    fn without(mut self, n: u8) -> Link
         requires { ⌜ (wellFormed self ≡ true) × ((self .state ≡ State.Wait) × (n ≤ self .queue .count)) ⌝ }
         ensures { λ r. ⌜ view r ≡ without (view self) n ⌝ }
     {
         let old = self.queue;
         let q = old.remove(n as usize);
         let s = open_state(q.count);
-        let base = dlc_packet::advanced(self.base, n);
-        Link {
-            state: s,
-            queue: q,
-            base: base,
-            expected: self.expected,
-        }
+        self.queue = q;
+        self.base = dlc_packet::advanced(self.base, n);
+        self.in_state(s)
     }
 
     // The link with p queued behind the others.
-    fn with_payload(self, p: &[u8]) -> Link
+    fn with_payload(mut self, p: &[u8]) -> Link
         requires { ⌜ (wellFormed self ≡ true) × ((self .queue .count < slots) × (length (now p) ≤ maxPayload)) ⌝ }
         ensures { λ r. ⌜ view r ≡ withPayload (view self) (now (p .entry)) ⌝ }
     {
         let old = self.queue;
         let q = old.push(p);
-        Link {
-            state: State::Wait,
-            queue: q,
-            base: self.base,
-            expected: self.expected,
-        }
+        self.queue = q;
+        self.in_state(State::Wait)
     }
 
     // The timer while payloads wait: send all.
     fn send_all(self, reply: &mut [u8]) -> Outcome
         requires { ⌜ (wellFormed self ≡ true) × (replySize ≤ length (now reply)) ⌝ }
-        ensures { λ r. ⌜ Meets (timerStep (view self) State.Wait) self (now (reply .entry)) (now (reply .exit)) r ⌝ }
+        ensures { λ r. ⌜ Meets view (timerStep (view self) State.Wait) self (now (reply .entry)) (now (reply .exit)) (r .link) (r .answer) ⌝ }
     {
         let q = self.queue;
         let base = self.base;

@@ -1,4 +1,4 @@
--- Demand 3. The theorem stands last. Assumes nothing.
+-- Demand 3. The theorem stands last, for every type of links and its view; Links states it of `Link` and of what C programs hold. Assumes nothing.
 --
 -- Beside it: Existence (every list of events has a history), Worked (a run with losses, repeats, refusals and a restart of the numbers; a run
 -- that meets the bound with equality), Opening (how both ends come to stand open), Progress (what waits is delivered, where nothing is lost).
@@ -10,8 +10,7 @@ use native.Mathlib.Omega.{arith}
 use mathlib.Core.Path.{_≡_, sym, ap, _∙_}
 use mathlib.Core.List.{List, _++_, map}
 use lib.ListN.{length}
-use Rattle.dlc.specs.declared.Link.{Link}
-use Rattle.dlc.specs.Model.{view, opened}
+use Rattle.dlc.specs.Model.{Model, opened}
 use Rattle.window.specs.Sides.{left, right}
 use Rattle.window.specs.Ends.{End as Peer}
 use Rattle.window.specs.Events.{start as packetStart}
@@ -26,7 +25,7 @@ use Rattle.dlc_pair.proofs.Effects.{lawful}
 use Rattle.dlc_pair.proofs.Runs.{eventOf, run-follows, timerWaits-follow, follow-initial}
 
 -- what the packet system's ends give, read off at the ends that follow them
-one-way : {e e′ : End} {a a′ : Peer} {P Q : Type 0} → Follows e a → Follows e′ a′ → (Q → P) → PacketOneWay rules a a′ P → OneWay e e′ Q
+one-way : {L : Type 0} {v : L → Model} {e e′ : End L} {a a′ : Peer} {P Q : Type 0} → Follows v e a → Follows v e′ a′ → (Q → P) → PacketOneWay rules a a′ P → OneWay e e′ Q
 one-way f f′ g c = record {
   prefix = (c .prefix .0, ap (λ (l : Packets). l ++ c .prefix .0) (f′ .delivered) ∙ c .prefix .1 ∙ sym (f .accepted));
   bound = λ q. omega (arith, c .bound (g q), f .sent, f .lost, ap length (f .accepted));
@@ -34,7 +33,7 @@ one-way f f′ g c = record {
 }
 
 -- from every world that follows the packet system's start
-pub demand-three-from : {w : World} → BothFollow w packetStart → (es : List Event) (h : History es w) → Demand3 es w h
+pub demand-three-from : {L : Type 0} {v : L → Model} {w : World L} → BothFollow v w packetStart → (es : List Event) (h : History v es w) → Demand3 v es w h
 demand-three-from f es h =
     let last = run-follows es f h in
     let c = sliding-window rules lawful (map eventOf es) in
@@ -43,6 +42,7 @@ demand-three-from f es h =
       rightToLeft = one-way (last .right) (last .left) (timerWaits-follow right es f h) (c .rightToLeft);
     }
 
--- demand 3: for every list of events, whatever its calls give back under their contracts
-pub demand-three : (l l′ : Link) → view l ≡ opened → view l′ ≡ opened → (es : List Event) (h : History es (initial l l′)) → Demand3 es (initial l l′) h
-demand-three l l′ e e′ es h = demand-three-from (follow-initial l l′ e e′) es h
+-- demand 3: for every type of links and its view, and every list of events, whatever its calls give back under their contracts
+pub demand-three : {L : Type 0} (v : L → Model) (l l′ : L) → v l ≡ opened → v l′ ≡ opened → (es : List Event) (h : History v es (initial l l′))
+    → Demand3 v es (initial l l′) h
+demand-three v l l′ e e′ es h = demand-three-from (follow-initial l l′ e e′) es h

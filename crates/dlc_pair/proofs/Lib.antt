@@ -9,3 +9,4 @@ pub mod Existence
 pub mod Worked
 pub mod Progress
 pub mod Opening
+pub mod Links

@@ -6,9 +6,8 @@ use mathlib.Core.Bool.{Bool, true, not}
 use mathlib.Core.List.{List, [], _∷_, _++_, map, map-append}
 use lib.ListN.{length, replicate, length-replicate, length-map}
 use borrow.Author.Tests.{le-ltb}
-use Rattle.dlc.specs.declared.Link.{Link}
 use Rattle.dlc.specs.Limits.{slots, replySize}
-use Rattle.dlc.specs.Model.{Model, view, opened}
+use Rattle.dlc.specs.Model.{Model, opened}
 use Rattle.window.specs.Sides.{Side, left, right, opposite, Both, endAt}
 use Rattle.window.specs.Packets.{Packet}
 use Rattle.window.specs.Ends.{End as Peer}
@@ -72,18 +71,18 @@ module _ (b : Octets) (h : Enough b) where
       events-++ (arrivals right one) _ (arrivals-replicate right n) second
 
 -- ---- read off at the ends that follow
-end-follows : (d : Side) {w : World} {s : Both Peer} → BothFollow w s → Follows (endAt d w) (endAt d s)
+end-follows : {L : Type 0} {v : L → Model} (d : Side) {w : World L} {s : Both Peer} → BothFollow v w s → Follows v (endAt d w) (endAt d s)
 end-follows left f = f .left
 end-follows right f = f .right
 
-line-nil : {e : End} {a : Peer} → Follows e a → e .line ≡ [] → a .line ≡ []
+line-nil : {L : Type 0} {v : L → Model} {e : End L} {a : Peer} → Follows v e a → e .line ≡ [] → a .line ≡ []
 line-nil {e} {a} f h = from-map (a .line) (sym (f .line) ∙ h)
   where
     from-map : (ks : List Packet) → map encode ks ≡ [] → ks ≡ []
     from-map [] h = refl
     from-map (k ∷ ks) h = cc
 
-settled-follows : (d : Side) {w z : World} {s t : Both Peer} → BothFollow w s → BothFollow z t → PacketSettled d s t → Settled d w z
+settled-follows : {L : Type 0} {v : L → Model} (d : Side) {w z : World L} {s t : Both Peer} → BothFollow v w s → BothFollow v z t → PacketSettled d s t → Settled v d w z
 settled-follows d f g p = record {
   queue = ap (λ (m : Model). m .queue) (end-follows d g .model) ∙ p .queue;
   accepted = end-follows d g .accepted ∙ p .accepted ∙ sym (end-follows d f .accepted);
@@ -91,7 +90,7 @@ settled-follows d f g p = record {
   lines = (g .left .line ∙ ap (map encode) (p .lines .0), g .right .line ∙ ap (map encode) (p .lines .1));
 }
 
-recovered-follows : {w z : World} {s t : Both Peer} → BothFollow w s → BothFollow z t → PacketRecovered s t → Recovered w z
+recovered-follows : {L : Type 0} {v : L → Model} {w z : World L} {s t : Both Peer} → BothFollow v w s → BothFollow v z t → PacketRecovered s t → Recovered v w z
 recovered-follows f g p = record {
   queues = (ap (λ (m : Model). m .queue) (g .left .model) ∙ p .queues .0, ap (λ (m : Model). m .queue) (g .right .model) ∙ p .queues .1);
   lines = (g .left .line ∙ ap (map encode) (p .lines .0), g .right .line ∙ ap (map encode) (p .lines .1));
@@ -99,24 +98,24 @@ recovered-follows f g p = record {
   rightToLeft = g .left .delivered ∙ p .rightToLeft ∙ sym (f .right .accepted);
 }
 
-line-length : {e : End} {a : Peer} {n : ℕ} → Follows e a → length (e .line) ≤ n → length (a .line) ≤ n
+line-length : {L : Type 0} {v : L → Model} {e : End L} {a : Peer} {n : ℕ} → Follows v e a → length (e .line) ≤ n → length (a .line) ≤ n
 line-length {e} {a} f h = omega (arith, ap length (f .line), length-map (a .line) encode)
 
 -- once both lines are empty: one timer call, at least as many arrivals at the other end as payloads are queued, and at least as many at this
 -- end; every reply buffer is large enough and nothing is lost
-pub progress : (l l′ : Link) → view l ≡ opened → view l′ ≡ opened → (es : List Event) (h : History es (initial l l′))
-    → final es (initial l l′) h .left .line ≡ []
-    → final es (initial l l′) h .right .line ≡ []
+pub progress : {L : Type 0} (v : L → Model) (l l′ : L) → v l ≡ opened → v l′ ≡ opened → (es : List Event) (h : History v es (initial l l′))
+    → final v es (initial l l′) h .left .line ≡ []
+    → final v es (initial l l′) h .right .line ≡ []
     → (d : Side) (b : Octets) (bs cs : List Octets)
     → Enough b
     → AllEnough bs
     → AllEnough cs
-    → length (view (endAt d (final es (initial l l′) h) .link) .queue) ≤ length bs
+    → length (v (endAt d (final v es (initial l l′) h) .link) .queue) ≤ length bs
     → length bs ≤ length cs
-    → (more : History (exchange d b bs cs) (final es (initial l l′) h))
-    → Settled d (final es (initial l l′) h) (final (exchange d b bs cs) (final es (initial l l′) h) more)
-progress l l′ e e′ es h el er d b bs cs hb hbs hcs fewer less more =
-    let f : BothFollow (final es (initial l l′) h) (runOf es packetStart) = run-follows es (follow-initial l l′ e e′) h in
+    → (more : History v (exchange d b bs cs) (final v es (initial l l′) h))
+    → Settled v d (final v es (initial l l′) h) (final v (exchange d b bs cs) (final v es (initial l l′) h) more)
+progress v l l′ e e′ es h el er d b bs cs hb hbs hcs fewer less more =
+    let f : BothFollow v (final v es (initial l l′) h) (runOf es packetStart) = run-follows es (follow-initial l l′ e e′) h in
     let queued : length (endAt d (runOf es packetStart) .sender .queue) ≤ length bs =
     subst (λ (m : Model). length (m .queue) ≤ length bs) (end-follows d f .model) fewer in
     let p = packets-progress rules lawful (map eventOf es) d (line-nil (f .left) el) (line-nil (f .right) er) (length bs) (length cs) queued less in
@@ -125,16 +124,16 @@ progress l l′ e e′ es h el er d b bs cs hb hbs hcs fewer less more =
 
 -- whatever is on the lines and in the queues: arrivals of what is on the lines, and an exchange of each end; every reply buffer is large enough
 -- and nothing is lost. n is at least the packets on either line, and the slots of a queue
-pub recovers : (l l′ : Link) → view l ≡ opened → view l′ ≡ opened → (es : List Event) (h : History es (initial l l′)) (b : Octets)
+pub recovers : {L : Type 0} (v : L → Model) (l l′ : L) → v l ≡ opened → v l′ ≡ opened → (es : List Event) (h : History v es (initial l l′)) (b : Octets)
     → Enough b
     → (n : ℕ)
-    → length (final es (initial l l′) h .left .line) ≤ n
-    → length (final es (initial l l′) h .right .line) ≤ n
+    → length (final v es (initial l l′) h .left .line) ≤ n
+    → length (final v es (initial l l′) h .right .line) ≤ n
     → slots ≤ n
-    → (more : History (recovery b n) (final es (initial l l′) h))
-    → Recovered (final es (initial l l′) h) (final (recovery b n) (final es (initial l l′) h) more)
-recovers l l′ e e′ es h b hb n hl hr hn more =
-    let f : BothFollow (final es (initial l l′) h) (runOf es packetStart) = run-follows es (follow-initial l l′ e e′) h in
+    → (more : History v (recovery b n) (final v es (initial l l′) h))
+    → Recovered v (final v es (initial l l′) h) (final v (recovery b n) (final v es (initial l l′) h) more)
+recovers v l l′ e e′ es h b hb n hl hr hn more =
+    let f : BothFollow v (final v es (initial l l′) h) (runOf es packetStart) = run-follows es (follow-initial l l′ e e′) h in
     let p = packets-recover rules lawful (map eventOf es) n (line-length (f .left) hl) (line-length (f .right) hr) hn in
     recovered-follows f (run-follows (recovery b n) f more)
     (subst (λ (fs : List PacketEvent). PacketRecovered (runOf es packetStart) (run rules fs (runOf es packetStart))) (sym (recovery-packets b hb n)) p)

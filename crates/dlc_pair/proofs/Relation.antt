@@ -6,12 +6,10 @@ use mathlib.Core.Logic.{_≢_}
 use mathlib.Core.Bool.{true}
 use mathlib.Core.List.{List, [], _∷_, _++_, map, map-append, append-nil}
 use lib.ListN.{length}
-use Rattle.dlc.specs.declared.Link.{Link}
 use Rattle.dlc.specs.declared.Answer.{Answer}
-use Rattle.dlc.specs.declared.Outcome.{Outcome}
 use Rattle.dlc.specs.Limits.{modulus, slots}
-use Rattle.dlc.specs.Answers.{illFormed}
-use Rattle.dlc.specs.Model.{Model, view}
+use Rattle.dlc.specs.Answers.{badLink}
+use Rattle.dlc.specs.Model.{Model}
 use Rattle.dlc.specs.Events.{Effect, refuse, stateOf}
 use Rattle.dlc.specs.Calls.{Meets}
 use Rattle.window.specs.Sides.{Both, mirror}
@@ -41,23 +39,23 @@ pub record Fits (a : Peer) : Type 0 where
   pub few : length (a .sender .queue) ≤ slots
 
 -- an end follows one of the packet system
-pub record Follows (e : End) (a : Peer) : Type 0 where
-  pub model : view (e .link) ≡ modelOf a
+pub record Follows {L : Type 0} (v : L → Model) (e : End L) (a : Peer) : Type 0 where
+  pub model : v (e .link) ≡ modelOf a
   pub line : e .line ≡ map encode (a .line)
   pub accepted : e .accepted ≡ a .sender .accepted
   pub delivered : e .delivered ≡ a .receiver .delivered
   pub sent : count isData (e .copied) ≡ a .sender .sent
   pub lost : e .lost ≡ a .sender .lost
-  pub never : Never illFormed (e .answers)
+  pub never : Never badLink (e .answers)
   pub fits : Fits a
   pub sound : All Sound (a .line)
 
 -- both do
-pub record BothFollow (w : World) (s : Both Peer) : Type 0 where
-  pub left : Follows (w .left) (s .left)
-  pub right : Follows (w .right) (s .right)
+pub record BothFollow {L : Type 0} (v : L → Model) (w : World L) (s : Both Peer) : Type 0 where
+  pub left : Follows v (w .left) (s .left)
+  pub right : Follows v (w .right) (s .right)
 
-pub follow-mirror : {w : World} {s : Both Peer} → BothFollow w s → BothFollow (mirror w) (mirror s)
+pub follow-mirror : {L : Type 0} {v : L → Model} {w : World L} {s : Both Peer} → BothFollow v w s → BothFollow v (mirror w) (mirror s)
 follow-mirror f = record { left = f .right; right = f .left }
 
 pub never-snoc : (c : ℕ) (xs : List ℕ) (x : ℕ) → Never c xs → x ≢ c → Never c (xs ++ (x ∷ []))
@@ -65,14 +63,14 @@ never-snoc c [] x n h = (h, tt)
 never-snoc c (y ∷ xs) x n h = (n .0, never-snoc c xs x (n .1) h)
 
 -- what a call copies out of its buffer is what its effect sends
-pub copiedBy-packets : (d : Effect) (l : Link) (before later : Octets) (r : Outcome) → Meets d l before later r → copiedBy r later ≡ d .packets
-copiedBy-packets d l before later r m = rw (m .returns .answer, m .reply) (packetsIn-flatten (d .packets) _ _)
+pub copiedBy-packets : {L : Type 0} {v : L → Model} {d : Effect} {l r : L} {before later : Octets} {a : Answer} → Meets v d l before later r a → copiedBy a later ≡ d .packets
+copiedBy-packets {d = d} m = rw (m .returns .answer, m .reply) (packetsIn-flatten (d .packets) _ _)
 
 -- what a call has to do for its end to follow the packet system's end b, which comes of a: it sends ks, and accepts, delivers and loses as b does
 pub record Becomes (d : Effect) (a b : Peer) (ks : List Packet) (accepted delivered : Packets) (lost : ℕ) : Type 0 where
   pub model : d .after ≡ modelOf b
   pub packets : d .packets ≡ map encode ks
-  pub code : d .code ≢ illFormed
+  pub code : d .code ≢ badLink
   pub line : b .line ≡ a .line ++ ks
   pub accepts : b .sender .accepted ≡ a .sender .accepted ++ accepted
   pub delivers : b .receiver .delivered ≡ a .receiver .delivered ++ delivered
@@ -81,26 +79,27 @@ pub record Becomes (d : Effect) (a b : Peer) (ks : List Packet) (accepted delive
   pub fits : Fits b
   pub sound : All Sound ks
 
-module _ {d : Effect} {l : Link} {before later : Octets} {r : Outcome} (m : Meets d l before later r) where
-  pub follows-called : {e : End} {a b : Peer} {ks : List Packet} {accepted delivered : Packets} {n : ℕ} → Follows e a → Becomes d a b ks accepted delivered n
-      → Follows (called r later accepted delivered n e) b
+module _ {L : Type 0} {v : L → Model} {d : Effect} {l r : L} {before later : Octets} {answer : Answer} (m : Meets v d l before later r answer) where
+  pub follows-called : {e : End L} {a b : Peer} {ks : List Packet} {accepted delivered : Packets} {n : ℕ} → Follows v e a
+      → Becomes d a b ks accepted delivered n
+      → Follows v (called r answer later accepted delivered n e) b
   follows-called {e} {a} {b} {ks} {accepted} {delivered} {n} f c =
-      let p : copiedBy r later ≡ map encode ks = copiedBy-packets d l before later r m ∙ c .packets in
-      let given : view (r .link) ≡ modelOf b = m .returns .link ∙ c .model in
+      let p : copiedBy answer later ≡ map encode ks = copiedBy-packets m ∙ c .packets in
+      let given : v r ≡ modelOf b = m .returns .link ∙ c .model in
       record {
         model = given;
         line = (λ i. f .line i ++ p i) ∙ sym (map-append encode (a .line) ks) ∙ ap (map encode) (sym (c .line));
         accepted = ap (λ (t : Packets). t ++ accepted) (f .accepted) ∙ sym (c .accepts);
         delivered = ap (λ (t : Packets). t ++ delivered) (f .delivered) ∙ sym (c .delivers);
-        sent = count-++ isData (e .copied) (copiedBy r later) ∙ (λ i. f .sent i + (ap (count isData) p ∙ count-data ks (c .sound)) i) ∙ sym (c .sent);
+        sent = count-++ isData (e .copied) (copiedBy answer later) ∙ (λ i. f .sent i + (ap (count isData) p ∙ count-data ks (c .sound)) i) ∙ sym (c .sent);
         lost = ap (λ (t : ℕ). t + n) (f .lost) ∙ sym (c .loses);
-        never = never-snoc illFormed (e .answers) (r .answer .code) (f .never) (λ x. c .code (sym (ap (λ (t : Answer). t .code) (m .returns .answer)) ∙ x));
+        never = never-snoc badLink (e .answers) (answer .code) (f .never) (λ x. c .code (sym (ap (λ (t : Answer). t .code) (m .returns .answer)) ∙ x));
         fits = c .fits;
         sound = subst (All Sound) (sym (c .line)) (all-++ Sound (a .line) ks (f .sound) (c .sound));
       }
 
 -- an effect that changes nothing
-pub becomes-same : {d : Effect} {a : Peer} {accepted delivered : Packets} {n : ℕ} (c : ℕ) → d ≡ refuse (modelOf a) c → c ≢ illFormed → Fits a
+pub becomes-same : {d : Effect} {a : Peer} {accepted delivered : Packets} {n : ℕ} (c : ℕ) → d ≡ refuse (modelOf a) c → c ≢ badLink → Fits a
     → accepted ≡ []
     → delivered ≡ []
     → n ≡ 0
@@ -122,9 +121,9 @@ becomes-same {d} {a} c e h fits x y z = record {
 abbrev pub losing : ℕ → Sender → Sender
 losing m x = record { queue = x .queue; base = x .base; accepted = x .accepted; sent = x .sent; lost = m }
 
-pub follows-relined : {e : End} {a : Peer} → Follows e a → (l : Packets) (ks : List Packet) (n m : ℕ) → l ≡ map encode ks → All Sound ks
+pub follows-relined : {L : Type 0} {v : L → Model} {e : End L} {a : Peer} → Follows v e a → (l : Packets) (ks : List Packet) (n m : ℕ) → l ≡ map encode ks → All Sound ks
     → m ≡ a .sender .lost + n
-    → Follows (relined l n e) (record { sender = losing m (a .sender); receiver = a .receiver; line = ks })
+    → Follows v (relined l n e) (record { sender = losing m (a .sender); receiver = a .receiver; line = ks })
 follows-relined f l ks n m el sound em = record {
   model = f .model;
   line = el;

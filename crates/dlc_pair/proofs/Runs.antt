@@ -2,8 +2,7 @@
 use native.Mathlib.Omega.{arith}
 use mathlib.Core.Path.{_≡_, refl, sym, ap, _∙_}
 use mathlib.Core.List.{List, [], _∷_, map}
-use Rattle.dlc.specs.declared.Link.{Link}
-use Rattle.dlc.specs.Model.{view, opened}
+use Rattle.dlc.specs.Model.{Model, opened}
 use Rattle.window.specs.Sides.{Side, left, right, Both}
 use Rattle.window.specs.Packets.{countData, countDack}
 use Rattle.window.specs.Ends.{End as Peer}
@@ -22,17 +21,17 @@ eventOf e = record { side = e .side; act = actOf (e .act) }
 abbrev pub runOf : List Event → Both Peer → Both Peer
 runOf es s = run rules (map eventOf es) s
 
-pub stepAt-follows : (d : Side) (a : Act) {w : World} {s : Both Peer} → BothFollow w s → (g : GivenAt d a w)
-    → BothFollow (afterAt d a w g) (stepAt rules d (actOf a) s)
+pub stepAt-follows : {L : Type 0} {v : L → Model} (d : Side) (a : Act) {w : World L} {s : Both Peer} → BothFollow v w s → (g : GivenAt v d a w)
+    → BothFollow v (afterAt v d a w g) (stepAt rules d (actOf a) s)
 stepAt-follows left a f g = step-follows a f g
 stepAt-follows right a f g = follow-mirror (step-follows a (follow-mirror f) g)
 
-pub run-follows : (es : List Event) {w : World} {s : Both Peer} → BothFollow w s → (h : History es w) → BothFollow (final es w h) (runOf es s)
+pub run-follows : {L : Type 0} {v : L → Model} (es : List Event) {w : World L} {s : Both Peer} → BothFollow v w s → (h : History v es w) → BothFollow v (final v es w h) (runOf es s)
 run-follows [] f h = f
 run-follows (e ∷ es) f h = run-follows es (stepAt-follows (e .side) (e .act) f (h .0)) (h .1)
 
 -- ---- the timer's premise says the same of both
-module _ {w : World} {s : Both Peer} (f : BothFollow w s) where
+module _ {L : Type 0} {v : L → Model} {w : World L} {s : Both Peer} (f : BothFollow v w s) where
   pub drained-data : count isData (w .left .line) ≡ countData (s .left .line)
   drained-data = ap (count isData) (f .left .line) ∙ count-data (s .left .line) (f .left .sound)
 
@@ -53,34 +52,34 @@ module _ {w : World} {s : Both Peer} (f : BothFollow w s) where
   waits-back (arrival before) h = tt
   waits-back (loss n) h = tt
 
-waitsAt-follow : (c d : Side) (a : Act) {w : World} {s : Both Peer} → BothFollow w s → WaitsAt c d a w → PacketWaitsAt c d (actOf a) s
+waitsAt-follow : {L : Type 0} {v : L → Model} (c d : Side) (a : Act) {w : World L} {s : Both Peer} → BothFollow v w s → WaitsAt c d a w → PacketWaitsAt c d (actOf a) s
 waitsAt-follow left left a f h = waits-follow f a h
 waitsAt-follow left right a f h = tt
 waitsAt-follow right left a f h = tt
 waitsAt-follow right right a f h = waits-follow (follow-mirror f) a h
 
-waitsAt-back : (c d : Side) (a : Act) {w : World} {s : Both Peer} → BothFollow w s → PacketWaitsAt c d (actOf a) s → WaitsAt c d a w
+waitsAt-back : {L : Type 0} {v : L → Model} (c d : Side) (a : Act) {w : World L} {s : Both Peer} → BothFollow v w s → PacketWaitsAt c d (actOf a) s → WaitsAt c d a w
 waitsAt-back left left a f h = waits-back f a h
 waitsAt-back left right a f h = tt
 waitsAt-back right left a f h = tt
 waitsAt-back right right a f h = waits-back (follow-mirror f) a h
 
-pub timerWaits-follow : (d : Side) (es : List Event) {w : World} {s : Both Peer} → BothFollow w s → (h : History es w) → TimerWaits d es w h
+pub timerWaits-follow : {L : Type 0} {v : L → Model} (d : Side) (es : List Event) {w : World L} {s : Both Peer} → BothFollow v w s → (h : History v es w) → TimerWaits v d es w h
     → PacketTimerWaits rules d (map eventOf es) s
 timerWaits-follow d [] f h t = tt
 timerWaits-follow d (e ∷ es) {w} f h t =
     let before : WaitsAt d (e .side) (e .act) w = t .0 in
     (waitsAt-follow d (e .side) (e .act) f before, timerWaits-follow d es (stepAt-follows (e .side) (e .act) f (h .0)) (h .1) (t .1))
 
-pub timerWaits-back : (d : Side) (es : List Event) {w : World} {s : Both Peer} → BothFollow w s → (h : History es w)
+pub timerWaits-back : {L : Type 0} {v : L → Model} (d : Side) (es : List Event) {w : World L} {s : Both Peer} → BothFollow v w s → (h : History v es w)
     → PacketTimerWaits rules d (map eventOf es) s
-    → TimerWaits d es w h
+    → TimerWaits v d es w h
 timerWaits-back d [] f h t = tt
 timerWaits-back d (e ∷ es) f h t =
     (waitsAt-back d (e .side) (e .act) f (t .0), timerWaits-back d es (stepAt-follows (e .side) (e .act) f (h .0)) (h .1) (t .1))
 
 -- ---- the start
-follows-fresh : (l : Link) → view l ≡ opened → Follows (freshEnd l) fresh
+follows-fresh : {L : Type 0} {v : L → Model} (l : L) → v l ≡ opened → Follows v (freshEnd l) fresh
 follows-fresh l e = record {
   model = e;
   line = refl;
@@ -93,5 +92,5 @@ follows-fresh l e = record {
   sound = tt;
 }
 
-pub follow-initial : (l l′ : Link) → view l ≡ opened → view l′ ≡ opened → BothFollow (initial l l′) packetStart
+pub follow-initial : {L : Type 0} {v : L → Model} (l l′ : L) → v l ≡ opened → v l′ ≡ opened → BothFollow v (initial l l′) packetStart
 follow-initial l l′ e e′ = record { left = follows-fresh l e; right = follows-fresh l′ e′ }

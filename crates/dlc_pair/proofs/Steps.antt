@@ -11,10 +11,9 @@ use lib.ListN.{length, getElem?}
 use lib.Dec.{leb, ltb, eqb}
 use borrow.Author.Tests.{ltb-false, leb-false}
 use Rattle.dlc.specs.declared.Answer.{Answer}
-use Rattle.dlc.specs.declared.Outcome.{Outcome}
 use Rattle.dlc.specs.Limits.{modulus, slots, maxPayload, replySize, distance}
-use Rattle.dlc.specs.Answers.{done, tooLong, queueFull, noEntry, shortReply, illFormed}
-use Rattle.dlc.specs.Model.{Model, view}
+use Rattle.dlc.specs.Answers.{done, payloadTooLong, queueFull, noEntry, replyTooSmall, badLink}
+use Rattle.dlc.specs.Model.{Model}
 use Rattle.dlc.specs.Events.{Effect, refuse, startOf, timerOf, payloadOf, arrivalOf}
 use Rattle.dlc.specs.Calls.{answerOf, Meets, deliveredPart}
 use Rattle.window.specs.Sides.{Both, eraseAt}
@@ -44,36 +43,36 @@ actOf (arrival before) = receive (not (tooShort before))
 actOf (loss n) = lose n
 
 -- at the left end, the contract of an effect that is known
-abbrev Met : World → Octets → Octets → Outcome → Effect → Type 0
-Met w before later r d = Meets d (w .left .link) before later r
+abbrev Met : {L : Type 0} → (L → Model) → World L → Octets → Octets → L → Answer → Effect → Type 0
+Met v w before later r answer d = Meets v d (w .left .link) before later r answer
 
 -- what an effect delivers of the packet k, and whether a packet is lost by it
 abbrev deliveredWhen : Packet → Effect → Packets
 deliveredWhen k d = cond (dataBit k && eqb (d .code) done) (deliveredPart (d .delivered) (encode k) ∷ []) []
 
 abbrev lostWhen : Bool → Effect → ℕ
-lostWhen counts d = one (counts && eqb (d .code) shortReply)
+lostWhen counts d = one (counts && eqb (d .code) replyTooSmall)
 
-module _ {w : World} {s : Both Peer} (f : BothFollow w s) {before later : Octets} {r : Outcome} where
-  met : (e : Model → Effect) {d : Effect} → e (modelOf (s .left)) ≡ d → Met w before later r (e (view (w .left .link))) → Met w before later r d
-  met e p m = subst (Met w before later r) (ap e (f .left .model) ∙ p) m
+module _ {L : Type 0} {v : L → Model} {w : World L} {s : Both Peer} (f : BothFollow v w s) {before later : Octets} {r : L} {answer : Answer} where
+  met : (e : Model → Effect) {d : Effect} → e (modelOf (s .left)) ≡ d → Met v w before later r answer (e (v (w .left .link))) → Met v w before later r answer d
+  met e p m = subst (Met v w before later r answer) (ap e (f .left .model) ∙ p) m
 
   -- ---- calls that bring no packet
-  refused : (c : ℕ) {accepted : Packets} → Met w before later r (refuse (modelOf (s .left)) c) → c ≢ illFormed → accepted ≡ []
-      → BothFollow (record { left = called r later accepted [] 0 (w .left); right = w .right }) s
+  refused : (c : ℕ) {accepted : Packets} → Met v w before later r answer (refuse (modelOf (s .left)) c) → c ≢ badLink → accepted ≡ []
+      → BothFollow v (record { left = called r answer later accepted [] 0 (w .left); right = w .right }) s
   refused c m h e = record { left = follows-called m (f .left) (becomes-same c refl h (f .left .fits) e refl refl); right = f .right }
 
-  start-follows : (short : Bool) → Met w before later r (startEffect short (modelOf (s .left)))
-      → BothFollow (record { left = called r later [] [] 0 (w .left); right = w .right }) s
-  start-follows true m = refused shortReply m (λ e. omega (arith, e)) refl
+  start-follows : (short : Bool) → Met v w before later r answer (startEffect short (modelOf (s .left)))
+      → BothFollow v (record { left = called r answer later [] [] 0 (w .left); right = w .right }) s
+  start-follows true m = refused replyTooSmall m (λ e. omega (arith, e)) refl
   start-follows false m = refused noEntry m (λ e. omega (arith, e)) refl
 
   payload-follows : (p : Octets) (short long full : Bool) → (long ≡ false → length p ≤ maxPayload) → (full ≡ false → length (s .left .sender .queue) < slots)
-      → Met w before later r (payloadEffect short long full (modelOf (s .left)) p)
-      → BothFollow (record { left = called r later (acceptedBy p (r .answer)) [] 0 (w .left); right = w .right })
+      → Met v w before later r answer (payloadEffect short long full (modelOf (s .left)) p)
+      → BothFollow v (record { left = called r answer later (acceptedBy p answer) [] 0 (w .left); right = w .right })
       (cond ((not short && not long) && not full) (record { left = accept rules p (s .left); right = s .right }) s)
-  payload-follows p true long full hl hf m = refused shortReply m (λ e. omega (arith, e)) (ap (acceptedBy p) (m .returns .answer))
-  payload-follows p false true full hl hf m = refused tooLong m (λ e. omega (arith, e)) (ap (acceptedBy p) (m .returns .answer))
+  payload-follows p true long full hl hf m = refused replyTooSmall m (λ e. omega (arith, e)) (ap (acceptedBy p) (m .returns .answer))
+  payload-follows p false true full hl hf m = refused payloadTooLong m (λ e. omega (arith, e)) (ap (acceptedBy p) (m .returns .answer))
   payload-follows p false false true hl hf m = refused queueFull m (λ e. omega (arith, e)) (ap (acceptedBy p) (m .returns .answer))
   payload-follows p false false false hl hf m = record {
     left = follows-called m (f .left) (becomes-accept (s .left) p (f .left .fits) (hf refl) (hl refl)
@@ -81,10 +80,10 @@ module _ {w : World} {s : Both Peer} (f : BothFollow w s) {before later : Octets
     right = f .right;
   }
 
-  timer-follows : (short waiting : Bool) → Met w before later r (timerEffect short waiting (modelOf (s .left)))
-      → BothFollow (record { left = called r later [] [] 0 (w .left); right = w .right })
+  timer-follows : (short waiting : Bool) → Met v w before later r answer (timerEffect short waiting (modelOf (s .left)))
+      → BothFollow v (record { left = called r answer later [] [] 0 (w .left); right = w .right })
       (cond (not short && waiting) (record { left = sendAll rules (s .left); right = s .right }) s)
-  timer-follows true waiting m = refused shortReply m (λ e. omega (arith, e)) refl
+  timer-follows true waiting m = refused replyTooSmall m (λ e. omega (arith, e)) refl
   timer-follows false false m = refused noEntry m (λ e. omega (arith, e)) refl
   timer-follows false true m = record {
     left = follows-called m (f .left) (record {
@@ -103,43 +102,43 @@ module _ {w : World} {s : Both Peer} (f : BothFollow w s) {before later : Octets
   }
 
   -- ---- an arrival of the packet k, behind which ks are on the line: the left end comes to b, and the right end has lost n
-  arrival-follows : (k : Packet) (ks : List Packet) → Sound k → All Sound ks → {d : Effect} → Met w before later r d → {b : Peer} {js : List Packet} (n : ℕ)
+  arrival-follows : (k : Packet) (ks : List Packet) → Sound k → All Sound ks → {d : Effect} → Met v w before later r answer d → {b : Peer} {js : List Packet} (n : ℕ)
       → Becomes d (s .left) b js [] (deliveredWhen k d) (lostWhen (dackBit k) d)
       → n ≡ s .right .sender .lost + lostWhen (dataBit k) d
-      → BothFollow
+      → BothFollow v
       (record {
-        left = called r later [] (deliveredBy (encode k) (r .answer)) (lostBy (isDack (encode k)) (r .answer)) (w .left);
-        right = relined (map encode ks) (lostBy (isData (encode k)) (r .answer)) (w .right);
+        left = called r answer later [] (deliveredBy (encode k) answer) (lostBy (isDack (encode k)) answer) (w .left);
+        right = relined (map encode ks) (lostBy (isData (encode k)) answer) (w .right);
       })
       (record { left = b; right = record { sender = losing n (s .right .sender); receiver = s .right .receiver; line = ks } })
   arrival-follows k ks h hs {d} m {b} {js} n c e =
-      let a : r .answer ≡ answerOf d = m .returns .answer in
-      let up : deliveredBy (encode k) (r .answer) ≡ deliveredWhen k d =
+      let a : answer ≡ answerOf d = m .returns .answer in
+      let up : deliveredBy (encode k) answer ≡ deliveredWhen k d =
       ap (deliveredBy (encode k)) a ∙ ap (λ (t : Bool). cond (t && eqb (d .code) done) (deliveredPart (d .delivered) (encode k) ∷ []) []) (isData-encode k h) in
-      let dack : lostBy (isDack (encode k)) (r .answer) ≡ lostWhen (dackBit k) d =
+      let dack : lostBy (isDack (encode k)) answer ≡ lostWhen (dackBit k) d =
       ap (lostBy (isDack (encode k))) a ∙ ap (λ (t : Bool). lostWhen t d) (isDack-encode k h) in
-      let data′ : lostBy (isData (encode k)) (r .answer) ≡ lostWhen (dataBit k) d =
+      let data′ : lostBy (isData (encode k)) answer ≡ lostWhen (dataBit k) d =
       ap (lostBy (isData (encode k))) a ∙ ap (λ (t : Bool). lostWhen t d) (isData-encode k h) in
-      let c′ : Becomes d (s .left) b js [] (deliveredWhen k d) (lostBy (isDack (encode k)) (r .answer)) =
+      let c′ : Becomes d (s .left) b js [] (deliveredWhen k d) (lostBy (isDack (encode k)) answer) =
       subst (Becomes d (s .left) b js [] (deliveredWhen k d)) (sym dack) c in
       record {
-        left = follows-called m (f .left) (subst (λ (t : Packets). Becomes d (s .left) b js [] t (lostBy (isDack (encode k)) (r .answer))) (sym up) c′);
+        left = follows-called m (f .left) (subst (λ (t : Packets). Becomes d (s .left) b js [] t (lostBy (isDack (encode k)) answer)) (sym up) c′);
         right = follows-relined (f .right) (map encode ks) ks _ n refl hs (e ∙ ap (λ (t : ℕ). s .right .sender .lost + t) (sym data′));
       }
 
   data-follows : (x : ℕ) (p : Octets) (ks : List Packet) → Sound (dataPdu x p) → All Sound ks → (short hit : Bool)
-      → Met w before later r (dataEffect short hit (modelOf (s .left)))
-      → BothFollow
+      → Met v w before later r answer (dataEffect short hit (modelOf (s .left)))
+      → BothFollow v
       (record {
-        left = called r later [] (deliveredBy (encode (dataPdu x p)) (r .answer)) (lostBy (isDack (encode (dataPdu x p))) (r .answer)) (w .left);
-        right = relined (map encode ks) (lostBy (isData (encode (dataPdu x p))) (r .answer)) (w .right);
+        left = called r answer later [] (deliveredBy (encode (dataPdu x p)) answer) (lostBy (isDack (encode (dataPdu x p))) answer) (w .left);
+        right = relined (map encode ks) (lostBy (isData (encode (dataPdu x p))) answer) (w .right);
       })
       (cond (not short)
       (record { left = takeData rules hit p (s .left); right = withLine ks (s .right) })
       (record { left = s .left; right = withSender (lostOne (s .right .sender)) (withLine ks (s .right)) }))
   data-follows x p ks h hs true hit m =
       arrival-follows (dataPdu x p) ks h hs m (suc (s .right .sender .lost))
-      (becomes-same shortReply refl (λ e. omega (arith, e)) (f .left .fits) refl refl refl) (omega arith)
+      (becomes-same replyTooSmall refl (λ e. omega (arith, e)) (f .left .fits) refl refl refl) (omega arith)
   data-follows x p ks h hs false true m =
       arrival-follows (dataPdu x p) ks h hs m (s .right .sender .lost)
       (becomes-answer (delivering p (s .left .receiver)) refl refl (λ e. omega (arith, e)) refl (fits-takeData (s .left) (f .left .fits) true p)) (omega arith)
@@ -149,11 +148,11 @@ module _ {w : World} {s : Both Peer} (f : BothFollow w s) {before later : Octets
       (fits-takeData (s .left) (f .left .fits) false p)) (omega arith)
 
   dack-follows : (x : ℕ) (ks : List Packet) → x < modulus → All Sound ks → (d : ℕ) (short frees : Bool)
-      → Met w before later r (dackEffect short frees (modelOf (s .left)) d)
-      → BothFollow
+      → Met v w before later r answer (dackEffect short frees (modelOf (s .left)) d)
+      → BothFollow v
       (record {
-        left = called r later [] (deliveredBy (encode (dackPdu x)) (r .answer)) (lostBy (isDack (encode (dackPdu x))) (r .answer)) (w .left);
-        right = relined (map encode ks) (lostBy (isData (encode (dackPdu x))) (r .answer)) (w .right);
+        left = called r answer later [] (deliveredBy (encode (dackPdu x)) answer) (lostBy (isDack (encode (dackPdu x))) answer) (w .left);
+        right = relined (map encode ks) (lostBy (isData (encode (dackPdu x))) answer) (w .right);
       })
       (cond (not short)
       (record { left = withSender (cond frees (freed d (s .left .sender)) (s .left .sender)) (s .left); right = withLine ks (s .right) })
@@ -169,9 +168,9 @@ module _ {w : World} {s : Both Peer} (f : BothFollow w s) {before later : Octets
       (becomes-sender (freed d (s .left .sender)) refl refl (λ e. omega (arith, e)) refl refl (omega arith) (fits-freed (s .left) (f .left .fits) d)) (omega arith)
 
 -- ---- an arrival, by the front of the right end's line
-front-follows : {w : World} {s : Both Peer} → BothFollow w s → (before : Octets) (ks : List Packet) → All Sound ks
-    → (g : GivenFront (map encode ks) (w .left) before)
-    → BothFollow (arrived (map encode ks) before w g) (arrive rules (not (tooShort before)) ks s)
+front-follows : {L : Type 0} {v : L → Model} {w : World L} {s : Both Peer} → BothFollow v w s → (before : Octets) (ks : List Packet) → All Sound ks
+    → (g : GivenFront v (map encode ks) (w .left) before)
+    → BothFollow v (arrived v (map encode ks) before w g) (arrive rules (not (tooShort before)) ks s)
 front-follows f before [] h g = f
 front-follows {w} {s} f before (dataPdu x p ∷ ks) h g =
     data-follows f x p ks (h .0) (h .1) (tooShort before) (eqb x (s .left .receiver .expected))
@@ -187,9 +186,9 @@ sound-at n [] k h e = absurd (Option·none-ne-some k e)
 sound-at zero (j ∷ ks) k h e = subst Sound (Option·some-injective j k e) (h .0)
 sound-at (suc n) (j ∷ ks) k h e = sound-at n ks k (h .1) e
 
-module _ {w : World} {s : Both Peer} (f : BothFollow w s) (n : ℕ) where
+module _ {L : Type 0} {v : L → Model} {w : World L} {s : Both Peer} (f : BothFollow v w s) (n : ℕ) where
   lost-follows : (k : Packet) → Sound k → (i j : ℕ) → i ≡ s .left .sender .lost + one (dataBit k) → j ≡ s .right .sender .lost + one (dackBit k)
-      → BothFollow (lostAt n (some (encode k)) w)
+      → BothFollow v (lostAt n (some (encode k)) w)
       (record {
         left = record { sender = losing i (s .left .sender); receiver = s .left .receiver; line = eraseAt n (s .left .line) };
         right = record { sender = losing j (s .right .sender); receiver = s .right .receiver; line = s .right .line };
@@ -203,7 +202,7 @@ module _ {w : World} {s : Both Peer} (f : BothFollow w s) (n : ℕ) where
         (ej ∙ ap (λ (b : Bool). s .right .sender .lost + one b) (sym (isDack-encode k h)));
   }
 
-  lose-follows : (k : Option Packet) → getElem? (s .left .line) n ≡ k → BothFollow (lostAt n (Option·map encode k) w) (loseAt n k s)
+  lose-follows : (k : Option Packet) → getElem? (s .left .line) n ≡ k → BothFollow v (lostAt n (Option·map encode k) w) (loseAt n k s)
   lose-follows none e = f
   lose-follows (some (dataPdu x p)) e =
       lost-follows (dataPdu x p) (sound-at n (s .left .line) (dataPdu x p) (f .left .sound) e)
@@ -213,7 +212,8 @@ module _ {w : World} {s : Both Peer} (f : BothFollow w s) (n : ℕ) where
       (s .left .sender .lost) (suc (s .right .sender .lost)) (omega arith) (omega arith)
 
 -- ---- an event at the left end
-pub step-follows : (a : Act) {w : World} {s : Both Peer} → BothFollow w s → (g : Given a w) → BothFollow (after a w g) (step rules (actOf a) s)
+pub step-follows : {L : Type 0} {v : L → Model} (a : Act) {w : World L} {s : Both Peer} → BothFollow v w s → (g : Given v a w)
+    → BothFollow v (after v a w g) (step rules (actOf a) s)
 step-follows (payload p before) {w} {s} f g =
     rw (ltb-not-leb (length (s .left .sender .queue)) slots)
     (payload-follows f p (tooShort before) (ltb maxPayload (length p)) (leb slots (length (s .left .sender .queue)))
@@ -224,15 +224,15 @@ step-follows (timer before) {w} {s} f g =
     (met f (λ (m : Model). timerOf m (length before)) (timerOf-open (s .left) (length before)) (g .meets))
 step-follows (start before) {w} {s} f g =
     start-follows f (tooShort before) (met f (λ (m : Model). startOf m (length before)) (startOf-open (s .left) (length before)) (g .meets))
-step-follows (arrival before) {w} {s} f g = at-line (w .right .line) (f .right .line) g
+step-follows {v = v} (arrival before) {w} {s} f g = at-line (w .right .line) (f .right .line) g
   where
-    at-line : (l : Packets) → l ≡ map encode (s .right .line) → (g : GivenFront l (w .left) before)
-        → BothFollow (arrived l before w g) (arrive rules (not (tooShort before)) (s .right .line) s)
+    at-line : (l : Packets) → l ≡ map encode (s .right .line) → (g : GivenFront v l (w .left) before)
+        → BothFollow v (arrived v l before w g) (arrive rules (not (tooShort before)) (s .right .line) s)
     at-line l e = subst
-        (λ (l : Packets). (g : GivenFront l (w .left) before) → BothFollow (arrived l before w g) (arrive rules (not (tooShort before)) (s .right .line) s))
+        (λ (l : Packets). (g : GivenFront v l (w .left) before) → BothFollow v (arrived v l before w g) (arrive rules (not (tooShort before)) (s .right .line) s))
         (sym e)
         (front-follows f before (s .right .line) (f .right .sound))
-step-follows (loss n) {w} {s} f g =
-    subst (λ (q : Option Octets). BothFollow (lostAt n q w) (loseAt n (getElem? (s .left .line) n) s))
+step-follows {v = v} (loss n) {w} {s} f g =
+    subst (λ (q : Option Octets). BothFollow v (lostAt n q w) (loseAt n (getElem? (s .left .line) n) s))
     (sym (ap (λ (l : Packets). getElem? l n) (f .left .line) ∙ get-map encode (s .left .line) n))
     (lose-follows f n (getElem? (s .left .line) n) refl)

@@ -5,9 +5,8 @@ use mathlib.Core.Path.{_≡_, refl, sym, ap, _∙_}
 use mathlib.Core.List.{List, [], _∷_, _++_, map}
 use lib.Dec.{T}
 use lib.ListN.{length, replicate}
-use Rattle.dlc.specs.declared.Link.{Link}
 use Rattle.dlc.specs.Limits.{slots, replySize}
-use Rattle.dlc.specs.Model.{Model, view, opened}
+use Rattle.dlc.specs.Model.{Model, opened}
 use Rattle.window.specs.Sides.{Side, left, right}
 use Rattle.window.specs.Events.{start as packetStart}
 use Rattle.window.proofs.Deciding.{timerWaits, timerWaits-true}
@@ -17,19 +16,19 @@ use Rattle.dlc_pair.specs.Rules.{rules}
 use Rattle.dlc_pair.proofs.Relation.{BothFollow}
 use Rattle.dlc_pair.proofs.Runs.{eventOf, runOf, run-follows, timerWaits-back, follow-initial}
 
--- ---- at an empty line an arrival and a loss change nothing
-pub arrival-nothing : (l l′ : Link) (before : Octets) → after (arrival before) (initial l l′) tt ≡ initial l l′
-arrival-nothing l l′ before = refl
+-- ---- at an empty line an arrival and a loss change nothing; L is a type of links, v its view
+pub arrival-nothing : {L : Type 0} (v : L → Model) (l l′ : L) (before : Octets) → after v (arrival before) (initial l l′) tt ≡ initial l l′
+arrival-nothing v l l′ before = refl
 
-pub loss-nothing : (l l′ : Link) (n : ℕ) → after (loss n) (initial l l′) tt ≡ initial l l′
-loss-nothing l l′ n = refl
+pub loss-nothing : {L : Type 0} (v : L → Model) (l l′ : L) (n : ℕ) → after v (loss n) (initial l l′) tt ≡ initial l l′
+loss-nothing v l l′ n = refl
 
 -- ---- what a run gives, of every history of its events
-module _ (l l′ : Link) (e : view l ≡ opened) (e′ : view l′ ≡ opened) (es : List Event) (h : History es (initial l l′)) where
-  followed : BothFollow (final es (initial l l′) h) (runOf es packetStart)
+module _ {L : Type 0} (v : L → Model) (l l′ : L) (e : v l ≡ opened) (e′ : v l′ ≡ opened) (es : List Event) (h : History v es (initial l l′)) where
+  followed : BothFollow v (final v es (initial l l′) h) (runOf es packetStart)
   followed = run-follows es (follow-initial l l′ e e′) h
 
-  waited : (d : Side) → T (timerWaits rules d (map eventOf es) packetStart) → TimerWaits d es (initial l l′) h
+  waited : (d : Side) → T (timerWaits rules d (map eventOf es) packetStart) → TimerWaits v d es (initial l l′) h
   waited d t = timerWaits-back d es (follow-initial l l′ e e′) h (timerWaits-true rules d (map eventOf es) packetStart t)
 
 -- ---- events
@@ -77,24 +76,24 @@ pub worked-length : length workedEvents ≡ 93
 worked-length = refl
 
 -- 21 payloads accepted and delivered, 31 DATA sent, 2 packets lost; the numbers have run past 15, and the next is 5
-pub record Worked (l l′ : Link) (h : History workedEvents (initial l l′)) : Type 0 where
-  pub accepted : final workedEvents (initial l l′) h .left .accepted ≡ payloadsFrom 21 1
-  pub delivered : final workedEvents (initial l l′) h .right .delivered ≡ payloadsFrom 21 1
-  pub sent : dataSent (final workedEvents (initial l l′) h .left) ≡ 31
-  pub lost : final workedEvents (initial l l′) h .left .lost ≡ 2
-  pub base : view (final workedEvents (initial l l′) h .left .link) .base ≡ 5
-  pub waits : TimerWaits left workedEvents (initial l l′) h
+pub record Worked {L : Type 0} (v : L → Model) (l l′ : L) (h : History v workedEvents (initial l l′)) : Type 0 where
+  pub accepted : final v workedEvents (initial l l′) h .left .accepted ≡ payloadsFrom 21 1
+  pub delivered : final v workedEvents (initial l l′) h .right .delivered ≡ payloadsFrom 21 1
+  pub sent : dataSent (final v workedEvents (initial l l′) h .left) ≡ 31
+  pub lost : final v workedEvents (initial l l′) h .left .lost ≡ 2
+  pub base : v (final v workedEvents (initial l l′) h .left .link) .base ≡ 5
+  pub waits : TimerWaits v left workedEvents (initial l l′) h
 
-pub worked : (l l′ : Link) → view l ≡ opened → view l′ ≡ opened → (h : History workedEvents (initial l l′)) → Worked l l′ h
-worked l l′ e e′ h =
-    let f = followed l l′ e e′ workedEvents h in
+pub worked : {L : Type 0} (v : L → Model) (l l′ : L) → v l ≡ opened → v l′ ≡ opened → (h : History v workedEvents (initial l l′)) → Worked v l l′ h
+worked v l l′ e e′ h =
+    let f = followed v l l′ e e′ workedEvents h in
     record {
       accepted = f .left .accepted;
       delivered = f .right .delivered;
       sent = f .left .sent;
       lost = f .left .lost;
       base = ap (λ (m : Model). m .base) (f .left .model);
-      waits = waited l l′ e e′ workedEvents h left tt;
+      waits = waited v l l′ e e′ workedEvents h left tt;
     }
 
 -- ---- seven are sent and the first is lost; six are answered by 25, and seven sent again: the bound is met, so seven cannot be lowered
@@ -105,17 +104,17 @@ tightEvents =
     ++ arrivals 6 right ++ arrivals 6 left
     ++ (at left (timer buffer) ∷ [])
 
-pub record Tight (l l′ : Link) (h : History tightEvents (initial l l′)) : Type 0 where
-  pub bound : dataSent (final tightEvents (initial l l′) h .left)
-      ≡ length (final tightEvents (initial l l′) h .left .accepted) + slots * final tightEvents (initial l l′) h .left .lost
-  pub waits : TimerWaits left tightEvents (initial l l′) h
+pub record Tight {L : Type 0} (v : L → Model) (l l′ : L) (h : History v tightEvents (initial l l′)) : Type 0 where
+  pub bound : dataSent (final v tightEvents (initial l l′) h .left)
+      ≡ length (final v tightEvents (initial l l′) h .left .accepted) + slots * final v tightEvents (initial l l′) h .left .lost
+  pub waits : TimerWaits v left tightEvents (initial l l′) h
 
-pub tight : (l l′ : Link) → view l ≡ opened → view l′ ≡ opened → (h : History tightEvents (initial l l′)) → Tight l l′ h
-tight l l′ e e′ h =
-    let f = followed l l′ e e′ tightEvents h in
+pub tight : {L : Type 0} (v : L → Model) (l l′ : L) → v l ≡ opened → v l′ ≡ opened → (h : History v tightEvents (initial l l′)) → Tight v l l′ h
+tight v l l′ e e′ h =
+    let f = followed v l l′ e e′ tightEvents h in
     record {
       bound = f .left .sent ∙ sym (λ i. length (f .left .accepted i) + slots * f .left .lost i);
-      waits = waited l l′ e e′ tightEvents h left tt;
+      waits = waited v l l′ e e′ tightEvents h left tt;
     }
 
 -- ---- both ends send. The left end's timer is called twice while the right end's DATA is on the line, and its premise holds: it asks for none of
@@ -134,19 +133,19 @@ duplexEvents =
     ∷ at right (arrival buffer)
     ∷ []
 
-pub record Duplex (l l′ : Link) (h : History duplexEvents (initial l l′)) : Type 0 where
-  pub leftToRight : final duplexEvents (initial l l′) h .right .delivered ≡ (1 ∷ []) ∷ []
-  pub rightToLeft : final duplexEvents (initial l l′) h .left .delivered ≡ (2 ∷ []) ∷ []
-  pub leftSent : dataSent (final duplexEvents (initial l l′) h .left) ≡ 2
-  pub leftLost : final duplexEvents (initial l l′) h .left .lost ≡ 1
-  pub rightSent : dataSent (final duplexEvents (initial l l′) h .right) ≡ 1
-  pub rightLost : final duplexEvents (initial l l′) h .right .lost ≡ 0
-  pub leftWaits : TimerWaits left duplexEvents (initial l l′) h
-  pub rightWaits : TimerWaits right duplexEvents (initial l l′) h
+pub record Duplex {L : Type 0} (v : L → Model) (l l′ : L) (h : History v duplexEvents (initial l l′)) : Type 0 where
+  pub leftToRight : final v duplexEvents (initial l l′) h .right .delivered ≡ (1 ∷ []) ∷ []
+  pub rightToLeft : final v duplexEvents (initial l l′) h .left .delivered ≡ (2 ∷ []) ∷ []
+  pub leftSent : dataSent (final v duplexEvents (initial l l′) h .left) ≡ 2
+  pub leftLost : final v duplexEvents (initial l l′) h .left .lost ≡ 1
+  pub rightSent : dataSent (final v duplexEvents (initial l l′) h .right) ≡ 1
+  pub rightLost : final v duplexEvents (initial l l′) h .right .lost ≡ 0
+  pub leftWaits : TimerWaits v left duplexEvents (initial l l′) h
+  pub rightWaits : TimerWaits v right duplexEvents (initial l l′) h
 
-pub duplex : (l l′ : Link) → view l ≡ opened → view l′ ≡ opened → (h : History duplexEvents (initial l l′)) → Duplex l l′ h
-duplex l l′ e e′ h =
-    let f = followed l l′ e e′ duplexEvents h in
+pub duplex : {L : Type 0} (v : L → Model) (l l′ : L) → v l ≡ opened → v l′ ≡ opened → (h : History v duplexEvents (initial l l′)) → Duplex v l l′ h
+duplex v l l′ e e′ h =
+    let f = followed v l l′ e e′ duplexEvents h in
     record {
       leftToRight = f .right .delivered;
       rightToLeft = f .left .delivered;
@@ -154,6 +153,6 @@ duplex l l′ e e′ h =
       leftLost = f .left .lost;
       rightSent = f .right .sent;
       rightLost = f .right .lost;
-      leftWaits = waited l l′ e e′ duplexEvents h left tt;
-      rightWaits = waited l l′ e e′ duplexEvents h right tt;
+      leftWaits = waited v l l′ e e′ duplexEvents h left tt;
+      rightWaits = waited v l l′ e e′ duplexEvents h right tt;
     }

@@ -1,14 +1,15 @@
 -- Demand 3: one claim about a list of events. Proved in proofs/Demand3. Assumes nothing.
 --
--- The theorem: for all links l, l′ with view l ≡ opened and view l′ ≡ opened, every list of events es and every history h of it from
--- `initial l l′`: Demand3 es (initial l l′) h.
+-- The theorem: for every type of links with a view v, all links l, l′ with v l ≡ opened and v l′ ≡ opened, every list of events es and every
+-- history h of it from `initial l l′`: Demand3 v es (initial l l′) h. It is stated of `Link` and of the link that C programs hold.
 use Prim.Native.Nat.{ℕ, _+_, _*_, _≤_}
 use mathlib.Core.Logic.{_≢_}
 use mathlib.Core.List.{List, [], _∷_, IsPrefix}
 use lib.ListN.{length}
 use Rattle.window.specs.Sides.{left, right}
 use Rattle.dlc.specs.Limits.{slots}
-use Rattle.dlc.specs.Answers.{illFormed}
+use Rattle.dlc.specs.Answers.{badLink}
+use Rattle.dlc.specs.Model.{Model}
 use Rattle.dlc_pair.specs.World.{End, World, dataSent}
 use Rattle.dlc_pair.specs.History.{Event, History, final, TimerWaits}
 
@@ -21,11 +22,11 @@ Never c (x ∷ xs) = (x ≢ c) × Never c xs
 --   prefix   the payloads delivered are an initial part of those accepted, in order, empty ones too
 --   bound    where the sender's timer waited, DATA sent ≤ accepted + seven for each lost
 --   formed   27 is never its answer
-pub record OneWay (sender receiver : End) (Waited : Type 0) : Type 0 where
+pub record OneWay {L : Type 0} (sender receiver : End L) (Waited : Type 0) : Type 0 where
   pub prefix : IsPrefix (receiver .delivered) (sender .accepted)
   pub bound : Waited → dataSent sender ≤ length (sender .accepted) + slots * sender .lost
-  pub formed : Never illFormed (sender .answers)
+  pub formed : Never badLink (sender .answers)
 
-pub record Demand3 (es : List Event) (w : World) (h : History es w) : Type 0 where
-  pub leftToRight : OneWay (final es w h .left) (final es w h .right) (TimerWaits left es w h)
-  pub rightToLeft : OneWay (final es w h .right) (final es w h .left) (TimerWaits right es w h)
+pub record Demand3 {L : Type 0} (v : L → Model) (es : List Event) (w : World L) (h : History v es w) : Type 0 where
+  pub leftToRight : OneWay (final v es w h .left) (final v es w h .right) (TimerWaits v left es w h)
+  pub rightToLeft : OneWay (final v es w h .right) (final v es w h .left) (TimerWaits v right es w h)

@@ -2,8 +2,8 @@
 use mathlib.Core.Path.{_≡_}
 use mathlib.Core.List.{List, [], _∷_}
 use Rattle.window.specs.Sides.{left, right}
-use Rattle.dlc.specs.Answers.{illFormed}
-use Rattle.dlc.specs.Model.{Model, view}
+use Rattle.dlc.specs.Answers.{badLink}
+use Rattle.dlc.specs.Model.{Model}
 use Rattle.dlc_pair.specs.World.{Octets, Packets, End, dataSent}
 use Rattle.dlc_pair.specs.History.{start, timer, arrival, Event}
 use Rattle.dlc_pair.specs.Demand3.{Never}
@@ -19,11 +19,11 @@ openingEvents b₁ b₂ b₃ b₄ =
     ∷ []
 
 -- an end with a link of this model and these packets on its line, where nothing was accepted, delivered or lost and no DATA was sent yet
-pub record Stands (e : End) (m : Model) (ks : Packets) : Type 0 where
-  pub model : view (e .link) ≡ m
+pub record Stands {L : Type 0} (v : L → Model) (e : End L) (m : Model) (ks : Packets) : Type 0 where
+  pub model : v (e .link) ≡ m
   pub line : e .line ≡ ks
   pub accepted : e .accepted ≡ []
   pub delivered : e .delivered ≡ []
   pub sent : dataSent e ≡ 0
   pub lost : e .lost ≡ 0
-  pub never : Never illFormed (e .answers)
+  pub never : Never badLink (e .answers)

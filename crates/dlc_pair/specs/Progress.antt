@@ -5,7 +5,7 @@ use mathlib.Core.List.{List, [], _∷_, _++_, map}
 use lib.ListN.{length, replicate}
 use Rattle.window.specs.Sides.{Side, left, right, opposite, endAt}
 use Rattle.dlc.specs.Limits.{replySize}
-use Rattle.dlc.specs.Model.{view}
+use Rattle.dlc.specs.Model.{Model}
 use Rattle.dlc_pair.specs.World.{Octets, World}
 use Rattle.dlc_pair.specs.History.{timer, arrival, Event}
 
@@ -26,8 +26,8 @@ abbrev pub exchange : Side → Octets → List Octets → List Octets → List E
 exchange d b bs cs = record { side = d; act = timer b } ∷ (arrivals (opposite d) bs ++ arrivals d cs)
 
 -- from w to z: nothing is left in the queue of this end, all that it had accepted is delivered at the other, and both lines are empty again
-pub record Settled (d : Side) (w z : World) : Type 0 where
-  pub queue : view (endAt d z .link) .queue ≡ []
+pub record Settled {L : Type 0} (v : L → Model) (d : Side) (w z : World L) : Type 0 where
+  pub queue : v (endAt d z .link) .queue ≡ []
   pub accepted : endAt d z .accepted ≡ endAt d w .accepted
   pub delivered : endAt (opposite d) z .delivered ≡ endAt d w .accepted
   pub lines : (z .left .line ≡ []) × (z .right .line ≡ [])
@@ -42,8 +42,8 @@ recovery b n =
     ++ (exchange left b (replicate n b) (replicate n b) ++ exchange right b (replicate n b) (replicate n b))))
 
 -- from w to z: both queues and both lines are empty, and all that was accepted at either end is delivered at the other
-pub record Recovered (w z : World) : Type 0 where
-  pub queues : (view (z .left .link) .queue ≡ []) × (view (z .right .link) .queue ≡ [])
+pub record Recovered {L : Type 0} (v : L → Model) (w z : World L) : Type 0 where
+  pub queues : (v (z .left .link) .queue ≡ []) × (v (z .right .link) .queue ≡ [])
   pub lines : (z .left .line ≡ []) × (z .right .line ≡ [])
   pub leftToRight : z .right .delivered ≡ w .left .accepted
   pub rightToLeft : z .left .delivered ≡ w .right .accepted

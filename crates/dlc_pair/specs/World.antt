@@ -7,7 +7,6 @@ use lib.Dec.{eqb}
 use Rattle.window.specs.Sides.{Both}
 use Rattle.dlc_packet.specs.Packet.{dataOctet, dackOctet}
 use Rattle.dlc.specs.Limits.{modulus}
-use Rattle.dlc.specs.declared.Link.{Link}
 
 -- octets of a packet, of a payload or of a buffer; and lists of packets or of payloads
 abbrev pub Octets : Type 0
@@ -43,9 +42,10 @@ packetsIn (suc n) [] m = []
 packetsIn (suc n) (k ∷ lengths) m = take k m ∷ packetsIn n lengths (drop k m)
 
 -- ---- the world
-pub record End : Type 0 where
+-- L is a type of links: a claim here is about whatever calls give back under the contracts of its view (dlc/specs/Calls)
+pub record End (L : Type 0) : Type 0 where
   -- the value that this end's last call gave back
-  pub link : Link
+  pub link : L
   -- its outgoing line, front first
   pub line : Packets
   -- every packet that was copied out of its reply buffers
@@ -59,16 +59,16 @@ pub record End : Type 0 where
   -- what its calls answered
   pub answers : List ℕ
 
-abbrev pub World : Type 0
-World = Both End
+abbrev pub World : Type 0 → Type 0
+World L = Both (End L)
 
 -- an end at the start: no packet sent, no payload accepted or delivered
-abbrev pub freshEnd : Link → End
+abbrev pub freshEnd : {L : Type 0} → L → End L
 freshEnd l = record { link = l; line = []; copied = []; accepted = []; delivered = []; lost = 0; answers = [] }
 
-abbrev pub initial : Link → Link → World
+abbrev pub initial : {L : Type 0} → L → L → World L
 initial l l′ = record { left = freshEnd l; right = freshEnd l′ }
 
 -- DATA sent: "all 4x packets copied out, repeats too"
-abbrev pub dataSent : End → ℕ
+abbrev pub dataSent : {L : Type 0} → End L → ℕ
 dataSent e = count isData (e .copied)

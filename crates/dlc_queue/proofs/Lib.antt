@@ -3,3 +3,4 @@ pub mod Short
 pub mod Shape
 pub mod Slots
 pub mod Sending
+pub mod Values

@@ -1,7 +1,4 @@
 -- `plain`: the state's number and the other fields as they are. Assumes nothing.
-use mathlib.Core.Path.{ap}
-use Prim.Native.Nat.{ℕ}
-use Rattle.dlc_plain.specs.declared.PlainLink.{PlainLink}
 use Rattle.dlc_plain.proofs.plain.Statement.{statement}
 use Rattle.dlc_plain.proofs.plain.Tie as tie
 

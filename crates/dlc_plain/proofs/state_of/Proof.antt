@@ -1,7 +1,4 @@
 -- `state_of`: the tests in the order of the definition. Assumes nothing.
-use mathlib.Core.Path.{_≡_}
-use mathlib.Core.Bool.{true, false}
-use lib.Dec.{eqb}
 use borrow.Author.Tests.{eq-eqb, ne-eqb}
 use Rattle.dlc_plain.proofs.state_of.Statement.{statement}
 use Rattle.dlc_plain.proofs.state_of.Tie as tie

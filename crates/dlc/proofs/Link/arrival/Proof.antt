@@ -80,23 +80,23 @@ same-length : tie.Need-same-length
 same-length c = search needs
 
 returns-3 : tie.Need-returns-3
-returns-3 c = meets-by _ _ _ _ _ _ (row (c .before .before .before .before .before .before) (c .before .before .before .before .enum-told2 .given .1)) (c .before .before .clear .ensures)
+returns-3 c = meets-by (row (c .before .before .before .before .before .before) (c .before .before .before .before .enum-told2 .given .1)) (c .before .before .clear .ensures)
 
 returns-4 : tie.Need-returns-4
 returns-4 c =
     let l = c .before .before .before .before .before .before .before .before .args .self in
-    meets-by _ _ _ _ _ _ (row (c .before .before .before) (c .before .enum-told3 .given .1)) (silent-meets _ _ _ _ (reset-ack-silent (view l) (l .state)) (c .reset-ack .ensures))
+    meets-by (row (c .before .before .before) (c .before .enum-told3 .given .1)) (silent-meets (reset-ack-silent (view l) (l .state)) (c .reset-ack .ensures))
 
 same-length-2 : tie.Need-same-length-2
 same-length-2 c = search needs
 
 returns-5 : tie.Need-returns-5
-returns-5 c = meets-by _ _ _ _ _ _ (row (c .before .before .before .before .before .before .before) (c .before .before .before .before .before .kind .given .1)) (c .before .before .«data» .ensures)
+returns-5 c = meets-by (row (c .before .before .before .before .before .before .before) (c .before .before .before .before .before .kind .given .1)) (c .before .before .«data» .ensures)
 
 returns-6 : tie.Need-returns-6
 returns-6 c =
     let l = c .before .before .before .before .before .before .before .before .before .args .self in
-    meets-by _ _ _ _ _ _ (row (c .before .before .before .before) (c .before .before .kind2 .given .1)) (silent-meets _ _ _ _ (dack-silent (view l) (l .state) (c .before .before .kind2 .given .0 .0)) (c .dack .ensures))
+    meets-by (row (c .before .before .before .before) (c .before .before .kind2 .given .1)) (silent-meets (dack-silent (view l) (l .state) (c .before .before .kind2 .given .0 .0)) (c .dack .ensures))
 
 pub arrival-spec : {M : Type 1} → statement M
 arrival-spec =

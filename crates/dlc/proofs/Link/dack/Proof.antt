@@ -43,7 +43,7 @@ returns-3 : tie.Need-returns-3
 returns-3 c = refused-returns _ _ noEntry _ (ap (λ (s : State). dackStep (view (c .before .before .before .args .self)) s (c .before .before .before .args .x)) (c .before .enum-told3 .given .1)) (c .silent3 .ensures)
 
 returns-4 : tie.Need-returns-4
-returns-4 c = returns-by _ _ _ _ (ap (λ (s : State). dackStep (view (c .before .before .before .args .self)) s (c .before .before .before .args .x)) (c .before .enum-told4 .given .1)) (c .acknowledge .ensures)
+returns-4 c = returns-by (ap (λ (s : State). dackStep (view (c .before .before .before .args .self)) s (c .before .before .before .args .x)) (c .before .enum-told4 .given .1)) (c .acknowledge .ensures)
 
 pub dack-spec : {M : Type 1} → statement M
 dack-spec =

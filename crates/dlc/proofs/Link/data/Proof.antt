@@ -22,7 +22,7 @@ same-length c = search needs
 returns : tie.Need-returns
 returns c =
     let l = c .before .before .before .before .before .before .before .args .self in
-    meets-by _ _ _ _ _ _ (data-open (view l) (l .state) (c .before .before .before .before .before .before .before .args .x) (sym (c .before .before .before .before .before .is-open .ensures) ∙ c .before .before .before .before .if1 .taken)) (c .before .before .judge .ensures)
+    meets-by (data-open (view l) (l .state) (c .before .before .before .before .before .before .before .args .x) (sym (c .before .before .before .before .before .is-open .ensures) ∙ c .before .before .before .before .if1 .taken)) (c .before .before .judge .ensures)
 
 returns-2 : tie.Need-returns-2
 returns-2 c =

@@ -7,7 +7,7 @@ new-requires : tie.Need-new-requires
 new-requires c κs = tt
 
 returns : tie.Need-returns
-returns c = view-fresh (c .new .result) (c .new .ensures .0)
+returns c = view-fresh (c .new .result) (c .new .ensures .0) (c .new .ensures .1)
 
 pub new-spec : {M : Type 1} → statement M
 new-spec = tie.close (tie.spec new-requires returns)

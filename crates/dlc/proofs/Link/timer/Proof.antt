@@ -4,6 +4,7 @@ use mathlib.Core.Path.{_≡_, refl}
 use mathlib.Core.Bool.{true}
 use lib.ListN.{length}
 use denote.Ref.{now}
+use Rattle.dlc_packet.specs.Packet.{resetOctet}
 use Rattle.dlc_queue.specs.Queue.{replySize}
 use Rattle.dlc.specs.Answers.{noEntry}
 use Rattle.dlc.specs.declared.State.{State}
@@ -70,7 +71,7 @@ same-length c = search needs
 returns-3 : tie.Need-returns-3
 returns-3 c =
     let l = c .before .before .before .before .before .before .before .before .before .args .self in
-    meets-by _ (timerStep (view l) Reset) _ _ _ _ (row (c .before .before .before .before .before .before) (c .before .before .before .before .enum-told2 .given .1)) (one-meets (timerStep (view l) Reset) l l 16 _ _ _ refl refl refl (c .before .before .send-one .ensures))
+    meets-by (row (c .before .before .before .before .before .before) (c .before .before .before .before .enum-told2 .given .1)) (one-meets (timerStep (view l) Reset) l l resetOctet _ _ _ refl refl refl (c .before .before .send-one .ensures))
 
 returns-4 : tie.Need-returns-4
 returns-4 c = refused-meets _ _ noEntry _ _ (row (c .before .before .before) (c .before .enum-told3 .given .1)) (c .silent3 .ensures)
@@ -79,7 +80,7 @@ same-length-2 : tie.Need-same-length-2
 same-length-2 c = search needs
 
 returns-5 : tie.Need-returns-5
-returns-5 c = meets-by _ _ _ _ _ _ (row (c .before .before .before .before .before .before) (c .before .before .before .before .enum-told4 .given .1)) (c .before .before .send-all .ensures)
+returns-5 c = meets-by (row (c .before .before .before .before .before .before) (c .before .before .before .before .enum-told4 .given .1)) (c .before .before .send-all .ensures)
 
 pub timer-spec : {M : Type 1} → statement M
 timer-spec =

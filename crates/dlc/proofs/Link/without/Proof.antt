@@ -1,4 +1,6 @@
 -- `Link::without`: what `remove`, `open_state` and `advanced` give makes the link that the table says. Assumes nothing.
+use mathlib.Core.Path.{ap, _∙_}
+use Rattle.dlc.specs.Model.{view}
 use Rattle.dlc.proofs.Parts.{length-queue}
 use Rattle.dlc.proofs.Views.{view-without}
 use Rattle.dlc.proofs.Link.without.Statement.{statement}
@@ -13,11 +15,19 @@ open-state-requires c κs = tt
 advanced-requires : tie.Need-advanced-requires
 advanced-requires c κs = tt
 
+in-state-requires : tie.Need-in-state-requires
+in-state-requires c κs = tt
+
 returns : tie.Need-returns
 returns c =
-    let l = c .before .before .before .before .args .self in
-    view-without l (c .before .before .before .before .pre .0) (c .before .before .remove .result) (c .before .before .before .before .args .n) (c .advanced .result) (c .before .open-state .result) (length-queue l _ (c .before .before .before .before .good .0) (c .before .before .before .before .pre .0)) (c .before .before .before .before .pre .1 .1)
-    (c .before .before .remove .ensures) (c .advanced .ensures) (c .before .open-state .ensures)
+    let s = c .before .before .before .before .before in
+    let l = s .args .self in
+    let removed = c .before .before .before .remove in
+    let opened = c .before .before .open-state in
+    let moved = c .before .advanced in
+    ap view (c .in-state .ensures)
+    ∙ view-without l (s .pre .0) (removed .result) (s .args .n) (moved .result) (opened .result) (length-queue l _ (s .good .0) (s .pre .0)) (s .pre .1 .1)
+    (removed .ensures) (moved .ensures) (opened .ensures)
 
 pub without-spec : {M : Type 1} → statement M
-without-spec = tie.close (tie.spec remove-requires open-state-requires advanced-requires returns)
+without-spec = tie.close (tie.spec remove-requires open-state-requires advanced-requires in-state-requires returns)
