@@ -12,7 +12,7 @@ use Rattle.stations.specs.declared.Stations.{Stations}
 use Rattle.stations.specs.Fields.{stationsOf, nextOffset}
 use Rattle.common.specs.Buffer.{withFront}
 use Rattle.common.proofs.Buffer.{take-withFront, sets-withFront, sets-front}
-use Rattle.afp.specs.Numbers.{version}
+use Rattle.afp.specs.Limits.{version}
 use Rattle.afp_write.specs.Frame.{headerLength, withCheck, headerBefore, headerOf, frameOf}
 
 pub length-before : (p : ℕ) (x : Next) (s h : List ℕ) → length (headerBefore p x s h) ≡ 5 + (length s + length h)
