@@ -108,7 +108,7 @@ static void read_cases(void)
 
     /* refusals 6, 4, 5, in this order */
     printf("read refused\n");
-    hasfandur_qaft_reader bad = {2, false, true, 3, 7};
+    hasfandur_qaft_reader bad = {2, 0, 1, 3, 7};
     print_answer(hasfandur_qaft_read(bad, line, sizeof line, buffer, 2560), buffer);
     bad.level = 1;
     print_answer(hasfandur_qaft_read(bad, line, sizeof line, buffer, 2560), buffer);

@@ -1,8 +1,8 @@
 /*
  * Hasfandur: proved link software for C.
  *
- * `make install` puts it where `pkg-config hasfandur` finds it; or link with target/staticlib/libdesk.a (`rt staticlib
- * desk`). No other library and no flag is needed. docs/C.md has a short example of each call.
+ * `make install` puts it where `pkg-config hasfandur` finds it; or link with libhasfandur.a. No other library and no flag is
+ * needed. docs/C.md has a short example of each call.
  * Each function below is proved to do what its comment says, for every argument that a C program can pass as the comment
  * says: a pointer to `length` octets that are the caller's, and that no other argument overlaps where they are written.
  * No function allocates, keeps a pointer, or fails: what it can't do it refuses by a number, and a refusal writes nothing.
@@ -109,12 +109,13 @@ hasfandur_written hasfandur_qaft_write(uint8_t level, bool at_flag, const uint8_
 
 /*
  * The QAFT reader's state, which goes from call to call by value: level; whether a flag has come; whether a 7D waits for
- * its partner; octets of the segment so far, escapes undone, 2,562 for all above; their sum modulo 256.
+ * its partner; octets of the segment so far, escapes undone, 2,562 for all above; their sum modulo 256. In `synced` and
+ * `pending` any number but 0 stands for true; a call that is not refused gives 0 or 1 back.
  */
 typedef struct hasfandur_qaft_reader {
     uint8_t level;
-    bool synced;
-    bool pending;
+    uint8_t synced;
+    uint8_t pending;
     size_t count;
     uint8_t sum;
 } hasfandur_qaft_reader;

@@ -5,7 +5,7 @@ ghost use Rattle.qaft.specs.Check.{checkOctet};
 ghost use Rattle.qaft_write.specs.Write.{writeFrame};
 ghost use Rattle.qaft_read.specs.State.{fresh};
 ghost use Rattle.qaft_read.specs.Read.{read};
-ghost use Rattle.desk.specs.Reading.{inNumbers};
+ghost use Rattle.qaft_plain.specs.Plain.{readerOf, plainOf, answerOf};
 ghost use Rattle.dlc.specs.Model.{fresh as freshLink};
 ghost use Rattle.dlc_plain.specs.Plain.{view};
 ghost use Rattle.dlc_plain.specs.PlainCalls.{StartCall, TimerCall, PayloadCall, ArrivalCall};
@@ -34,43 +34,27 @@ pub extern "C" fn hasfandur_qaft_write(
     qaft_write::write_frame(level, at_flag, data, out)
 }
 
-// The reader's answer in plain numbers: the report or refusal, the octets taken, the data octets shown, the later state.
-#[repr(C)]
-pub struct ReadAnswer {
-    pub number: u8,
-    pub taken: usize,
-    pub length: usize,
-    pub reader: qaft_read::Reader,
-}
-
+// The reader and the link cross in plain numbers: any number may come.
 #[no_mangle]
-pub extern "C" fn hasfandur_qaft_fresh(level: u8) -> qaft_read::Reader
-    ensures { λ r. ⌜ r ≡ fresh level ⌝ }
+pub extern "C" fn hasfandur_qaft_fresh(level: u8) -> qaft_plain::PlainReader
+    ensures { λ r. ⌜ r ≡ plainOf (fresh level) ⌝ }
 {
-    qaft_read::Reader::fresh(level)
+    qaft_plain::PlainReader::fresh(level)
 }
 
 #[no_mangle]
 pub extern "C" fn hasfandur_qaft_read(
-    reader: qaft_read::Reader,
+    reader: qaft_plain::PlainReader,
     chunk: &[u8],
     buffer: &mut [u8],
-) -> ReadAnswer
-    ensures { λ r. ⌜ r ≡ inNumbers (read reader (now (chunk .entry)) (now (buffer .entry)) .answer) ⌝ }
-    ensures { λ _. ⌜ now (buffer .exit) ≡ read reader (now (chunk .entry)) (now (buffer .entry)) .buffer ⌝ }
+) -> qaft_plain::PlainAnswer
+    ensures { λ r. ⌜ r ≡ answerOf reader (read (readerOf reader) (now (chunk .entry)) (now (buffer .entry)) .answer) ⌝ }
+    ensures { λ _. ⌜ now (buffer .exit) ≡ read (readerOf reader) (now (chunk .entry)) (now (buffer .entry)) .buffer ⌝ }
 {
-    let a = reader.read(chunk, buffer);
-    let outcome = a.outcome;
-    let next = a.reader;
-    ReadAnswer {
-        number: outcome.number(),
-        taken: a.taken,
-        length: outcome.data_length(),
-        reader: next,
-    }
+    reader.read(chunk, buffer)
 }
 
-// The link, in plain numbers. Each event takes a link and gives it back with an answer.
+// Each event takes a link and gives it back with an answer.
 #[no_mangle]
 pub extern "C" fn hasfandur_dlc_fresh() -> dlc_plain::PlainLink
     ensures { λ r. ⌜ view r ≡ freshLink ⌝ }
