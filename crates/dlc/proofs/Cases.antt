@@ -34,7 +34,7 @@ unfolding arrivalOf
 dack-14 = refl
 
 -- all are sent, oldest first, and none is removed
-pub timer-sends : timerOf waiting replySize ≡ effect done ((78 ∷ 1 ∷ []) ∷ (79 ∷ 2 ∷ []) ∷ []) waiting
+pub timer-sends : timerOf waiting replySize ≡ effect done ((0x4E ∷ 1 ∷ []) ∷ (0x4F ∷ 2 ∷ []) ∷ []) waiting
 unfolding timerOf
 timer-sends = refl
 

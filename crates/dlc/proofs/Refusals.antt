@@ -11,20 +11,20 @@ use Rattle.common.specs.Refusals.{Refusal, guarded}
 use Rattle.dlc_packet.specs.Packet.{maxPayload, kindOf}
 use Rattle.dlc_packet.specs.declared.Kind.{Kind}
 use Rattle.dlc_queue.specs.Queue.{slots, replySize}
-use Rattle.dlc.specs.Answers.{done, notOpen, tooLong, queueFull, shortReply, illFormed}
+use Rattle.dlc.specs.Answers.{done, notOpen, payloadTooLong, queueFull, replyTooSmall, badLink}
 use Rattle.dlc.specs.Model.{Model}
 use Rattle.dlc.specs.Events.{Effect, refuse, queued, isOpen, callRefusals, payloadRefusals}
 use Rattle.dlc.specs.Events.{startOf, timerOf, payloadOf, arrivalOf, startStep, timerStep, packetStep}
 use Rattle.dlc.specs.declared.State.{State}
 
 -- the two refusals by their tests: a number that is one of them is the refusal; 0 is none, and what comes after them is done
-first : (a b : Bool) (ts : List Refusal) (d : Effect) (f : ℕ → Effect) (c : ℕ) → guarded ((a, illFormed) ∷ (b, shortReply) ∷ []) (λ n. n) done ≡ c → (c ≡ done → ⊥)
-    → guarded ((a, illFormed) ∷ (b, shortReply) ∷ ts) f d ≡ f c
+first : (a b : Bool) (ts : List Refusal) (d : Effect) (f : ℕ → Effect) (c : ℕ) → guarded ((a, badLink) ∷ (b, replyTooSmall) ∷ []) (λ n. n) done ≡ c → (c ≡ done → ⊥)
+    → guarded ((a, badLink) ∷ (b, replyTooSmall) ∷ ts) f d ≡ f c
 first true b ts d f c e n = ap f e
 first false true ts d f c e n = ap f e
 first false false ts d f c e n = absurd (n (sym e))
 
-none : (a b : Bool) → guarded ((a, illFormed) ∷ (b, shortReply) ∷ []) (λ n. n) done ≡ done → (a ≡ false) × (b ≡ false)
+none : (a b : Bool) → guarded ((a, badLink) ∷ (b, replyTooSmall) ∷ []) (λ n. n) done ≡ done → (a ≡ false) × (b ≡ false)
 none true b e = absurd (omega (arith, e))
 none false true e = absurd (omega (arith, e))
 none false false e = (refl, refl)
@@ -83,7 +83,7 @@ module _ (m : Model) (room c : ℕ) (e : c ≡ answered m room) where
       unfolding payloadOf
       past = call-passed m room (payloadRefusals m p) (queued m p) c e z
 
-      pub payload-tooLong : maxPayload < length p → payloadOf m p room ≡ refuse m tooLong
+      pub payload-tooLong : maxPayload < length p → payloadOf m p room ≡ refuse m payloadTooLong
       payload-tooLong h = past ∙ simp (lt-ltb _ _ h)
 
       pub payload-notOpen : length p ≤ maxPayload → isOpen (m .state) ≡ false → payloadOf m p room ≡ refuse m notOpen

@@ -11,7 +11,7 @@ use Rattle.dlc_packet.specs.Numbers.{advance}
 use Rattle.dlc_packet.specs.Packet.{maxPayload}
 use Rattle.dlc_queue.specs.declared.Queue.{Queue}
 use Rattle.dlc_queue.specs.Queue.{slots, payloads, formed, Pushed, Removed}
-use Rattle.dlc_queue.proofs.Slots.{is-formed, push-count, push-payloads, remove-count, remove-payloads, remove-formed}
+use Rattle.dlc_queue.proofs.Slots.{is-formed, push-count, push-payloads, push-formed, remove-count, remove-payloads, remove-formed}
 use Rattle.dlc.specs.declared.State.{State}
 use Rattle.dlc.specs.declared.State.the-variants.{Idle, Data, Wait}
 use Rattle.dlc.specs.declared.Link.{Link}
@@ -71,7 +71,7 @@ module _ (l : Link) (w : wellFormed l ≡ true) where
       let n : q .count ≡ l .queue .count + 1 = push-count (l .queue) q (g .queue) p h k m in
       let ps = push-payloads (l .queue) q (g .queue) p h k m in
       let f : ltb 0 (q .count) ≡ true = lt-ltb 0 (q .count) (omega (arith, n)) in
-      let v = kept l (link Wait q (l .base) (l .expected)) w (record { queue = m .formed ∙ g .queue; base = g .base; expected = g .expected; state = f }) in
+      let v = kept l (link Wait q (l .base) (l .expected)) w (record { queue = push-formed (l .queue) q (g .queue) p h k m; base = g .base; expected = g .expected; state = f }) in
       λ i. record { ok = v i; state = Wait; queue = ps i; base = l .base; expected = l .expected }
 
 -- the state of an open link by its queue, and by how many payloads it counts

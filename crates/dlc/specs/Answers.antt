@@ -11,8 +11,8 @@ abbrev pub notOpen : ℕ
 notOpen = 20
 
 -- payload: over 256 octets
-abbrev pub tooLong : ℕ
-tooLong = 21
+abbrev pub payloadTooLong : ℕ
+payloadTooLong = 21
 
 -- payload: queue full
 abbrev pub queueFull : ℕ
@@ -31,12 +31,12 @@ abbrev pub otherNumber : ℕ
 otherNumber = 25
 
 -- reply buffer too short
-abbrev pub shortReply : ℕ
-shortReply = 26
+abbrev pub replyTooSmall : ℕ
+replyTooSmall = 26
 
 -- link value not well formed
-abbrev pub illFormed : ℕ
-illFormed = 27
+abbrev pub badLink : ℕ
+badLink = 27
 
 -- a refusal: every number but 0 and 25
 abbrev pub refuses : ℕ → Bool

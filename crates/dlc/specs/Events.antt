@@ -14,7 +14,7 @@ use Rattle.dlc_packet.specs.declared.Kind.{Kind}
 use Rattle.dlc_packet.specs.declared.Kind.the-variants.{Invalid, Reset as ResetKind, ResetAck, Data as DataKind, Dack}
 use Rattle.dlc_queue.specs.Queue.{slots, replySize}
 use Rattle.dlc_queue.specs.Send.{dataPackets}
-use Rattle.dlc.specs.Answers.{done, notOpen, tooLong, queueFull, badPacket, noEntry, otherNumber, shortReply, illFormed}
+use Rattle.dlc.specs.Answers.{done, notOpen, payloadTooLong, queueFull, badPacket, noEntry, otherNumber, replyTooSmall, badLink}
 use Rattle.dlc.specs.declared.State.{State}
 use Rattle.dlc.specs.declared.State.the-variants.{Idle, Reset, Data, Wait}
 use Rattle.dlc.specs.Model.{Model}
@@ -133,11 +133,11 @@ isOpen Wait = true
 -- ---- the events, with their refusals in order: 27, 26, 23, 21, 20, 22
 -- what every call refuses
 abbrev pub callRefusals : Model → ℕ → List Refusal
-callRefusals m room = (not (m .ok), illFormed) ∷ (ltb room replySize, shortReply) ∷ []
+callRefusals m room = (not (m .ok), badLink) ∷ (ltb room replySize, replyTooSmall) ∷ []
 
 -- what a payload call refuses besides
 abbrev pub payloadRefusals : Model → List ℕ → List Refusal
-payloadRefusals m p = (ltb maxPayload (length p), tooLong) ∷ (not (isOpen (m .state)), notOpen) ∷ (leb slots (length (m .queue)), queueFull) ∷ []
+payloadRefusals m p = (ltb maxPayload (length p), payloadTooLong) ∷ (not (isOpen (m .state)), notOpen) ∷ (leb slots (length (m .queue)), queueFull) ∷ []
 
 unfoldable pub startOf : Model → ℕ → Effect
 startOf m room = guarded (callRefusals m room) (refuse m) (startStep m (m .state))

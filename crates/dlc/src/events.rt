@@ -6,17 +6,17 @@ ghost use Rattle.dlc.specs.Answers.{done};
 ghost use Rattle.dlc.specs.Model.{view};
 ghost use Rattle.dlc.specs.Events.{callRefusals};
 ghost use Rattle.dlc.specs.Calls.{StartCall, TimerCall, PayloadCall, ArrivalCall};
+use crate::BAD_LINK;
 use crate::BAD_PACKET;
 use crate::DONE;
-use crate::ILL_FORMED;
 use crate::Link;
 use crate::NO_ENTRY;
 use crate::NOT_OPEN;
 use crate::Outcome;
+use crate::PAYLOAD_TOO_LONG;
 use crate::QUEUE_FULL;
-use crate::SHORT_REPLY;
+use crate::REPLY_TOO_SMALL;
 use crate::State;
-use crate::TOO_LONG;
 use crate::is_open;
 use crate::send_one;
 use crate::silent;
@@ -66,7 +66,7 @@ impl Link {
             return silent(self, c);
         }
         if Link::MAX_PAYLOAD < p.len() {
-            return silent(self, TOO_LONG);
+            return silent(self, PAYLOAD_TOO_LONG);
         }
         let s = self.state;
         if is_open(s) {
@@ -99,18 +99,18 @@ impl Link {
         }
     }
 
-    // The refusal that all calls share: ILL_FORMED, then SHORT_REPLY; DONE where neither applies.
+    // The refusal that all calls share: BAD_LINK, then REPLY_TOO_SMALL; DONE where neither applies.
     fn refusal(self, room: usize) -> u8
         ensures { λ r. ⌜ r ≡ guarded (callRefusals (view self) room) (λ n. n) done ⌝ }
     {
         if self.well_formed() {
             if room < Link::REPLY {
-                SHORT_REPLY
+                REPLY_TOO_SMALL
             } else {
                 DONE
             }
         } else {
-            ILL_FORMED
+            BAD_LINK
         }
     }
 }

@@ -23,7 +23,7 @@ pub const DONE: u8 = 0;
 
 pub const NOT_OPEN: u8 = 20;
 
-pub const TOO_LONG: u8 = 21;
+pub const PAYLOAD_TOO_LONG: u8 = 21;
 
 pub const QUEUE_FULL: u8 = 22;
 
@@ -33,9 +33,9 @@ pub const NO_ENTRY: u8 = 24;
 
 pub const OTHER_NUMBER: u8 = 25;
 
-pub const SHORT_REPLY: u8 = 26;
+pub const REPLY_TOO_SMALL: u8 = 26;
 
-pub const ILL_FORMED: u8 = 27;
+pub const BAD_LINK: u8 = 27;
 
 // DLIDLE, DLRESET, DLDATA, DLDWAIT
 pub enum State {
@@ -45,7 +45,7 @@ pub enum State {
     Wait,
 }
 
-// A link; any value of this type may be handed to an event, which answers ILL_FORMED where it is none.
+// A link; any value of this type may be handed to an event, which answers BAD_LINK where it is none.
 pub struct Link {
     pub state: State,
     pub queue: Queue,

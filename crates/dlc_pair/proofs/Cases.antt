@@ -10,7 +10,7 @@ use lib.ListN.{replicate}
 use Rattle.dlc.specs.declared.Link.{Link}
 use Rattle.dlc.specs.declared.Answer.{Answer}
 use Rattle.dlc.specs.declared.Outcome.{Outcome}
-use Rattle.dlc.specs.Answers.{done, otherNumber, queueFull, shortReply}
+use Rattle.dlc.specs.Answers.{done, otherNumber, queueFull, replyTooSmall}
 use Rattle.dlc.specs.Limits.{dataPacket, dackPacket, resetPacket}
 use Rattle.window.specs.Sides.{left, right}
 use Rattle.dlc_pair.specs.World.{Octets, isData, isDack, count, packetsIn, World, freshEnd, initial}
@@ -19,14 +19,14 @@ use Rattle.dlc_pair.specs.Progress.{Enough, exchange, recovery}
 
 -- ---- packets
 -- 4x is DATA whatever x is, 5x is DACK, RESET is neither
-pub kinds : count isData ((64 ∷ []) ∷ (79 ∷ 1 ∷ []) ∷ (80 ∷ []) ∷ resetPacket ∷ [] ∷ []) ≡ 2
+pub kinds : count isData ((0x40 ∷ []) ∷ (0x4F ∷ 1 ∷ []) ∷ (0x50 ∷ []) ∷ resetPacket ∷ [] ∷ []) ≡ 2
 kinds = refl
 
-pub dacks : count isDack ((64 ∷ []) ∷ (80 ∷ []) ∷ (95 ∷ []) ∷ resetPacket ∷ [] ∷ []) ≡ 2
+pub dacks : count isDack ((0x40 ∷ []) ∷ (0x50 ∷ []) ∷ (0x5F ∷ []) ∷ resetPacket ∷ [] ∷ []) ≡ 2
 dacks = refl
 
 -- two packets out of a buffer that goes on
-pub two-packets : packetsIn 2 (2 ∷ 1 ∷ 0 ∷ []) (64 ∷ 7 ∷ 65 ∷ 99 ∷ []) ≡ (64 ∷ 7 ∷ []) ∷ (65 ∷ []) ∷ []
+pub two-packets : packetsIn 2 (2 ∷ 1 ∷ 0 ∷ []) (0x40 ∷ 7 ∷ 0x41 ∷ 99 ∷ []) ≡ (0x40 ∷ 7 ∷ []) ∷ (0x41 ∷ []) ∷ []
 two-packets = refl
 
 -- ---- what an answer means for the world
@@ -52,7 +52,7 @@ pub delivered-dack : deliveredBy (dackPacket 3) (answer done false) ≡ []
 delivered-dack = refl
 
 -- 26 makes the packet lost, 25 does not
-pub lost-26 : lostBy true (answer shortReply false) ≡ 1
+pub lost-26 : lostBy true (answer replyTooSmall false) ≡ 1
 lost-26 = refl
 
 pub lost-25 : lostBy true (answer otherNumber false) ≡ 0
@@ -68,10 +68,10 @@ module _ (l l′ : Link) where
 
 -- an end after a call that sent one packet of two octets: the next call takes the link that this one gave back, and the packet is on the line
 abbrev oneSent : Link → Outcome
-oneSent l = record { link = l; answer = record { code = 0; «upper_reset» = false; delivered = false; sent = 1; lengths = 2 ∷ 0 ∷ [] } }
+oneSent l = record { link = l; answer = record { code = done; «upper_reset» = false; delivered = false; sent = 1; lengths = 2 ∷ 0 ∷ [] } }
 
-pub after-call : (l l′ : Link) → called (oneSent l) (64 ∷ 7 ∷ 99 ∷ []) [] [] 0 (freshEnd l′)
-    ≡ record { link = l; line = (64 ∷ 7 ∷ []) ∷ []; copied = (64 ∷ 7 ∷ []) ∷ []; accepted = []; delivered = []; lost = 0; answers = 0 ∷ [] }
+pub after-call : (l l′ : Link) → called (oneSent l) (0x40 ∷ 7 ∷ 99 ∷ []) [] [] 0 (freshEnd l′)
+    ≡ record { link = l; line = (0x40 ∷ 7 ∷ []) ∷ []; copied = (0x40 ∷ 7 ∷ []) ∷ []; accepted = []; delivered = []; lost = 0; answers = done ∷ [] }
 after-call l l′ = refl
 
 -- the premise on a timer call is about the world before it, and about its own end's timer alone

@@ -14,7 +14,7 @@ use lib.Dec.{leb, ltb, eqb, leb·suc-zero}
 use borrow.Author.Tests.{lt-ltb, le-ltb, leb-true, leb-false}
 use Rattle.dlc_packet.proofs.Numbers.{distance-dackNumber}
 use Rattle.dlc.specs.Limits.{modulus, advance, slots, maxPayload, replySize, dackNumber, distance, dackPacket, dataPackets}
-use Rattle.dlc.specs.Answers.{done, tooLong, notOpen, queueFull, noEntry, otherNumber, shortReply, illFormed}
+use Rattle.dlc.specs.Answers.{done, payloadTooLong, notOpen, queueFull, noEntry, otherNumber, replyTooSmall, badLink}
 use Rattle.dlc.specs.Model.{Model}
 use Rattle.dlc.specs.Events.{Effect, effect, refuse, expectNext, dackOf, judged, dataStep, stateOf, without, dackStep, timerStep, startStep, withPayload, queued, isOpen, packetStep, startOf, timerOf, payloadOf, arrivalOf}
 use Rattle.window.specs.Packets.{dataPdu, dackPdu}
@@ -58,7 +58,7 @@ module _ (a : Peer) (f : Fits a) where
 
 -- ---- an effect as a step of the packet system's end
 -- that leaves the line alone, and changes the sending half
-pub becomes-sender : {d : Effect} {a : Peer} (x : Sender) {n : ℕ} → d .after ≡ modelOf (withSender x a) → d .packets ≡ [] → d .code ≢ illFormed
+pub becomes-sender : {d : Effect} {a : Peer} (x : Sender) {n : ℕ} → d .after ≡ modelOf (withSender x a) → d .packets ≡ [] → d .code ≢ badLink
     → x .accepted ≡ a .sender .accepted
     → x .sent ≡ a .sender .sent
     → x .lost ≡ a .sender .lost + n
@@ -80,7 +80,7 @@ becomes-sender {a = a} x model packets code accepted sent lost fits = record {
 -- that answers by a DACK, the receiving half being y now
 pub becomes-answer : {d : Effect} {a : Peer} (y : Receiver) {up : Packets} → d .after ≡ modelOf (answering rules y a)
     → d .packets ≡ dackPacket (dackNumber (y .expected)) ∷ []
-    → d .code ≢ illFormed
+    → d .code ≢ badLink
     → y .delivered ≡ a .receiver .delivered ++ up
     → Fits (answering rules y a)
     → Becomes d a (answering rules y a) (dackPdu (dackNumber (y .expected)) ∷ []) [] up 0
@@ -99,7 +99,7 @@ becomes-answer {a = a} y model packets code delivers fits = record {
 
 -- ---- start: 26 or 24
 abbrev pub startEffect : Bool → Model → Effect
-startEffect short m = cond short (refuse m shortReply) (refuse m noEntry)
+startEffect short m = cond short (refuse m replyTooSmall) (refuse m noEntry)
 
 start-open : (m : Model) (q : Packets) → startStep m (stateOf q) ≡ refuse m noEntry
 start-open m [] = refl
@@ -107,11 +107,11 @@ start-open m (p ∷ q) = refl
 
 pub startOf-open : (a : Peer) (n : ℕ) → startOf (modelOf a) n ≡ startEffect (ltb n replySize) (modelOf a)
 unfolding startOf
-startOf-open a n = ap (cond (ltb n replySize) (refuse (modelOf a) shortReply)) (start-open (modelOf a) (a .sender .queue))
+startOf-open a n = ap (cond (ltb n replySize) (refuse (modelOf a) replyTooSmall)) (start-open (modelOf a) (a .sender .queue))
 
 -- ---- payload: 26, 21, 22 or accepted
 abbrev pub payloadEffect : Bool → Bool → Bool → Model → Octets → Effect
-payloadEffect short long full m p = cond short (refuse m shortReply) (cond long (refuse m tooLong) (cond full (refuse m queueFull) (queued m p)))
+payloadEffect short long full m p = cond short (refuse m replyTooSmall) (cond long (refuse m payloadTooLong) (cond full (refuse m queueFull) (queued m p)))
 
 is-open : (q : Packets) → isOpen (stateOf q) ≡ true
 is-open [] = refl
@@ -120,8 +120,8 @@ is-open (p ∷ q) = refl
 pub payloadOf-open : (a : Peer) (p : Octets) (n : ℕ)
     → payloadOf (modelOf a) p n ≡ payloadEffect (ltb n replySize) (ltb maxPayload (length p)) (leb slots (length (a .sender .queue))) (modelOf a) p
 unfolding payloadOf
-payloadOf-open a p n = λ i. cond (ltb n replySize) (refuse (modelOf a) shortReply)
-    (cond (ltb maxPayload (length p)) (refuse (modelOf a) tooLong)
+payloadOf-open a p n = λ i. cond (ltb n replySize) (refuse (modelOf a) replyTooSmall)
+    (cond (ltb maxPayload (length p)) (refuse (modelOf a) payloadTooLong)
     (cond (not (is-open (a .sender .queue) i)) (refuse (modelOf a) notOpen)
     (cond (leb slots (length (a .sender .queue))) (refuse (modelOf a) queueFull) (queued (modelOf a) p))))
 
@@ -164,7 +164,7 @@ becomes-accept a p f h k accepts = record {
 
 -- ---- timer: 26, 24 or all sent
 abbrev pub timerEffect : Bool → Bool → Model → Effect
-timerEffect short some m = cond short (refuse m shortReply) (cond some (effect done (dataPackets (m .base) (m .queue)) m) (refuse m noEntry))
+timerEffect short some m = cond short (refuse m replyTooSmall) (cond some (effect done (dataPackets (m .base) (m .queue)) m) (refuse m noEntry))
 
 timer-open : (m : Model) (q : Packets) → timerStep m (stateOf q) ≡ cond (ltb 0 (length q)) (effect done (dataPackets (m .base) (m .queue)) m) (refuse m noEntry)
 timer-open m [] = refl
@@ -172,12 +172,12 @@ timer-open m (p ∷ q) = rw (lt-ltb 0 (suc (length q)) (omega arith))
 
 pub timerOf-open : (a : Peer) (n : ℕ) → timerOf (modelOf a) n ≡ timerEffect (ltb n replySize) (ltb 0 (length (a .sender .queue))) (modelOf a)
 unfolding timerOf
-timerOf-open a n = ap (cond (ltb n replySize) (refuse (modelOf a) shortReply)) (timer-open (modelOf a) (a .sender .queue))
+timerOf-open a n = ap (cond (ltb n replySize) (refuse (modelOf a) replyTooSmall)) (timer-open (modelOf a) (a .sender .queue))
 
 -- ---- DATA: 26, 25 or delivered
 abbrev pub dataEffect : Bool → Bool → Model → Effect
 dataEffect short hit m =
-    cond short (refuse m shortReply)
+    cond short (refuse m replyTooSmall)
     (cond hit
     (record { code = done; upperReset = false; delivered = true; packets = dackOf (expectNext m) ∷ []; after = expectNext m })
     (effect otherNumber (dackOf m ∷ []) m))
@@ -190,11 +190,11 @@ pub arrivalOf-data : (a : Peer) (x : ℕ) (p : Octets) (n : ℕ) → Sound (data
     → arrivalOf (modelOf a) (encode (dataPdu x p)) n ≡ dataEffect (ltb n replySize) (eqb x (a .receiver .expected)) (modelOf a)
 unfolding arrivalOf
 arrivalOf-data a x p n h =
-    ap (cond (ltb n replySize) (refuse (modelOf a) shortReply)) (ap (packetStep (modelOf a)) (kindOf-data x p h) ∙ data-open (modelOf a) (a .sender .queue) x)
+    ap (cond (ltb n replySize) (refuse (modelOf a) replyTooSmall)) (ap (packetStep (modelOf a)) (kindOf-data x p h) ∙ data-open (modelOf a) (a .sender .queue) x)
 
 -- ---- DACK: 26, 24 or slots freed
 abbrev pub dackEffect : Bool → Bool → Model → ℕ → Effect
-dackEffect short some m d = cond short (refuse m shortReply) (cond some (effect done [] (without m d)) (refuse m noEntry))
+dackEffect short some m d = cond short (refuse m replyTooSmall) (cond some (effect done [] (without m d)) (refuse m noEntry))
 
 -- a queue without payloads is acknowledged by no distance
 none-queued : (d : ℕ) → acknowledges d [] ≡ false
@@ -217,4 +217,4 @@ pub arrivalOf-dack : (a : Peer) (x : ℕ) (n : ℕ) → x < modulus
     ≡ dackEffect (ltb n replySize) (acknowledges (distance (a .sender .base) x) (a .sender .queue)) (modelOf a) (distance (a .sender .base) x)
 unfolding arrivalOf
 arrivalOf-dack a x n h =
-    ap (cond (ltb n replySize) (refuse (modelOf a) shortReply)) (ap (packetStep (modelOf a)) (kindOf-dack x h) ∙ dack-open (modelOf a) (a .sender .queue) x refl)
+    ap (cond (ltb n replySize) (refuse (modelOf a) replyTooSmall)) (ap (packetStep (modelOf a)) (kindOf-dack x h) ∙ dack-open (modelOf a) (a .sender .queue) x refl)

@@ -15,7 +15,7 @@ use Rattle.dlc_queue.specs.declared.Queue.{Queue}
 use Rattle.dlc_queue.specs.Queue.{octetsOf, used, allShort, formed}
 use Rattle.dlc.specs.declared.Link.{Link}
 use Rattle.dlc.specs.Limits.{modulus, slots, maxPayload, distance}
-use Rattle.dlc.specs.Answers.{tooLong, queueFull, noEntry, shortReply, refuses}
+use Rattle.dlc.specs.Answers.{payloadTooLong, queueFull, noEntry, replyTooSmall, refuses}
 use Rattle.dlc.specs.Model.{Model, view, wellFormed, stateFits, opened}
 use Rattle.dlc.specs.Events.{Effect, refuse, stateOf, startOf, timerOf, payloadOf, arrivalOf}
 use Rattle.dlc.specs.Calls.{answerOf, Meets}
@@ -136,28 +136,28 @@ reply d l before (moves l′ e z) = record {
 
 module _ (a : Peer) (f : Fits a) where
   start-possible : (short : Bool) → Possible (modelOf a) (startEffect short (modelOf a))
-  start-possible true = stays shortReply refl
+  start-possible true = stays replyTooSmall refl
   start-possible false = stays noEntry refl
 
   payload-possible : (p : Octets) (short long full : Bool) → (long ≡ false → length p ≤ maxPayload) → (full ≡ false → length (a .sender .queue) < slots)
       → Possible (modelOf a) (payloadEffect short long full (modelOf a) p)
-  payload-possible p true long full hl hf = stays shortReply refl
-  payload-possible p false true full hl hf = stays tooLong refl
+  payload-possible p true long full hl hf = stays replyTooSmall refl
+  payload-possible p false true full hl hf = stays payloadTooLong refl
   payload-possible p false false true hl hf = stays queueFull refl
   payload-possible p false false false hl hf = becomes (accept rules p a) (fits-accept a f p (hf refl) (hl refl)) (withPayload-accept a p) refl
 
   timer-possible : (short waiting : Bool) → Possible (modelOf a) (timerEffect short waiting (modelOf a))
-  timer-possible true waiting = stays shortReply refl
+  timer-possible true waiting = stays replyTooSmall refl
   timer-possible false false = stays noEntry refl
   timer-possible false true = becomes a f refl refl
 
   data-possible : (p : Octets) (short hit : Bool) → Possible (modelOf a) (dataEffect short hit (modelOf a))
-  data-possible p true hit = stays shortReply refl
+  data-possible p true hit = stays replyTooSmall refl
   data-possible p false false = becomes a f refl refl
   data-possible p false true = becomes (takeData rules true p a) (fits-takeData a f true p) refl refl
 
   dack-possible : (d : ℕ) (short frees : Bool) → Possible (modelOf a) (dackEffect short frees (modelOf a) d)
-  dack-possible d true frees = stays shortReply refl
+  dack-possible d true frees = stays replyTooSmall refl
   dack-possible d false false = stays noEntry refl
   dack-possible d false true = becomes (withSender (freed d (a .sender)) a) (fits-freed a f d) refl refl
 

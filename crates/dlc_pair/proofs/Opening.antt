@@ -15,7 +15,7 @@ use Rattle.dlc.specs.declared.Link.{Link}
 use Rattle.dlc.specs.declared.Answer.{Answer}
 use Rattle.dlc.specs.declared.Outcome.{Outcome}
 use Rattle.dlc.specs.Limits.{replySize, resetPacket, resetAckPacket}
-use Rattle.dlc.specs.Answers.{done, shortReply, illFormed, refuses}
+use Rattle.dlc.specs.Answers.{done, replyTooSmall, badLink, refuses}
 use Rattle.dlc.specs.Model.{Model, view, wellFormed, fresh, opened}
 use Rattle.dlc.specs.Events.{Effect, effect, cleared, startOf, timerOf, arrivalOf}
 use Rattle.dlc.specs.Calls.{Meets, StartCall, TimerCall, deliveredPart}
@@ -64,7 +64,7 @@ stands-fresh l h = record { model = h; line = refl; accepted = refl; delivered =
 stands-called : {d : Effect} {l : Link} {before later : Octets} {r : Outcome} → Meets d l before later r → {e : End} {m : Model} {ks : Packets} → Stands e m ks
     → {up : Packets} {n : ℕ}
     → count isData (d .packets) ≡ 0
-    → d .code ≢ illFormed
+    → d .code ≢ badLink
     → up ≡ []
     → n ≡ 0
     → Stands (called r later [] up n e) (d .after) (ks ++ d .packets)
@@ -77,7 +77,7 @@ stands-called {d} {l} {before} {later} {r} c {e} {m} {ks} s {up} {n} h k eu en =
       delivered = λ i. s .delivered i ++ eu i;
       sent = count-++ isData (e .copied) (copiedBy r later) ∙ omega (arith, s .sent, ap (count isData) p, h);
       lost = omega (arith, s .lost, en);
-      never = never-snoc illFormed (e .answers) (r .answer .code) (s .never) (λ x. k (sym (ap (λ (t : Answer). t .code) (c .returns .answer)) ∙ x));
+      never = never-snoc badLink (e .answers) (r .answer .code) (s .never) (λ x. k (sym (ap (λ (t : Answer). t .code) (c .returns .answer)) ∙ x));
     }
 
 stands-relined : {e : End} {m : Model} {ks : Packets} → Stands e m ks → (l : Packets) (n : ℕ) → n ≡ 0 → Stands (relined l n e) m l
@@ -93,7 +93,7 @@ stands-relined s l n h = record {
 
 -- an arrival of a packet that is no DATA and no DACK, and stands alone on the line
 module _ {w : World} {m m′ : Model} {ks : Packets} (q : Octets) (s : Stands (w .left) m ks) (s′ : Stands (w .right) m′ (q ∷ [])) (before : Octets) {d : Effect}
-    (e : arrivalOf m q (length before) ≡ d) (silent : count isData (d .packets) ≡ 0) (code : d .code ≢ illFormed)
+    (e : arrivalOf m q (length before) ≡ d) (silent : count isData (d .packets) ≡ 0) (code : d .code ≢ badLink)
     (noData : isData q ≡ false) (noDack : isDack q ≡ false) where
   stands-front : (g : GivenFront (q ∷ []) (w .left) before)
       → Stands (arrived (q ∷ []) before w g .left) (d .after) (ks ++ d .packets) × Stands (arrived (q ∷ []) before w g .right) m′ []
@@ -102,8 +102,8 @@ module _ {w : World} {m m′ : Model} {ks : Packets} (q : Octets) (s : Stands (w
       subst (λ (t : Effect). Meets t (w .left .link) before (g .later) (g .outcome)) (ap (λ (t : Model). arrivalOf t q (length before)) (s .model) ∙ e) (g .meets) in (
         stands-called c s silent code
             (λ i. cond (noData i && eqb (g .outcome .answer .code) done) (deliveredPart (g .outcome .answer .delivered) q ∷ []) [])
-            (λ i. one (noDack i && eqb (g .outcome .answer .code) shortReply)),
-        stands-relined s′ [] _ (λ i. one (noData i && eqb (g .outcome .answer .code) shortReply)),
+            (λ i. one (noDack i && eqb (g .outcome .answer .code) replyTooSmall)),
+        stands-relined s′ [] _ (λ i. one (noData i && eqb (g .outcome .answer .code) replyTooSmall)),
       )
 
   stands-arrived : (g : Given (arrival before) w)

@@ -10,7 +10,7 @@ use Rattle.dlc.specs.declared.Link.{Link}
 use Rattle.dlc.specs.declared.Answer.{Answer}
 use Rattle.dlc.specs.declared.Outcome.{Outcome}
 use Rattle.dlc.specs.Limits.{modulus, slots}
-use Rattle.dlc.specs.Answers.{illFormed}
+use Rattle.dlc.specs.Answers.{badLink}
 use Rattle.dlc.specs.Model.{Model, view}
 use Rattle.dlc.specs.Events.{Effect, refuse, stateOf}
 use Rattle.dlc.specs.Calls.{Meets}
@@ -48,7 +48,7 @@ pub record Follows (e : End) (a : Peer) : Type 0 where
   pub delivered : e .delivered ≡ a .receiver .delivered
   pub sent : count isData (e .copied) ≡ a .sender .sent
   pub lost : e .lost ≡ a .sender .lost
-  pub never : Never illFormed (e .answers)
+  pub never : Never badLink (e .answers)
   pub fits : Fits a
   pub sound : All Sound (a .line)
 
@@ -72,7 +72,7 @@ copiedBy-packets d l before later r m = rw (m .returns .answer, m .reply) (packe
 pub record Becomes (d : Effect) (a b : Peer) (ks : List Packet) (accepted delivered : Packets) (lost : ℕ) : Type 0 where
   pub model : d .after ≡ modelOf b
   pub packets : d .packets ≡ map encode ks
-  pub code : d .code ≢ illFormed
+  pub code : d .code ≢ badLink
   pub line : b .line ≡ a .line ++ ks
   pub accepts : b .sender .accepted ≡ a .sender .accepted ++ accepted
   pub delivers : b .receiver .delivered ≡ a .receiver .delivered ++ delivered
@@ -94,13 +94,13 @@ module _ {d : Effect} {l : Link} {before later : Octets} {r : Outcome} (m : Meet
         delivered = ap (λ (t : Packets). t ++ delivered) (f .delivered) ∙ sym (c .delivers);
         sent = count-++ isData (e .copied) (copiedBy r later) ∙ (λ i. f .sent i + (ap (count isData) p ∙ count-data ks (c .sound)) i) ∙ sym (c .sent);
         lost = ap (λ (t : ℕ). t + n) (f .lost) ∙ sym (c .loses);
-        never = never-snoc illFormed (e .answers) (r .answer .code) (f .never) (λ x. c .code (sym (ap (λ (t : Answer). t .code) (m .returns .answer)) ∙ x));
+        never = never-snoc badLink (e .answers) (r .answer .code) (f .never) (λ x. c .code (sym (ap (λ (t : Answer). t .code) (m .returns .answer)) ∙ x));
         fits = c .fits;
         sound = subst (All Sound) (sym (c .line)) (all-++ Sound (a .line) ks (f .sound) (c .sound));
       }
 
 -- an effect that changes nothing
-pub becomes-same : {d : Effect} {a : Peer} {accepted delivered : Packets} {n : ℕ} (c : ℕ) → d ≡ refuse (modelOf a) c → c ≢ illFormed → Fits a
+pub becomes-same : {d : Effect} {a : Peer} {accepted delivered : Packets} {n : ℕ} (c : ℕ) → d ≡ refuse (modelOf a) c → c ≢ badLink → Fits a
     → accepted ≡ []
     → delivered ≡ []
     → n ≡ 0

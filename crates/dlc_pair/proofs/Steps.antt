@@ -13,7 +13,7 @@ use borrow.Author.Tests.{ltb-false, leb-false}
 use Rattle.dlc.specs.declared.Answer.{Answer}
 use Rattle.dlc.specs.declared.Outcome.{Outcome}
 use Rattle.dlc.specs.Limits.{modulus, slots, maxPayload, replySize, distance}
-use Rattle.dlc.specs.Answers.{done, tooLong, queueFull, noEntry, shortReply, illFormed}
+use Rattle.dlc.specs.Answers.{done, payloadTooLong, queueFull, noEntry, replyTooSmall, badLink}
 use Rattle.dlc.specs.Model.{Model, view}
 use Rattle.dlc.specs.Events.{Effect, refuse, startOf, timerOf, payloadOf, arrivalOf}
 use Rattle.dlc.specs.Calls.{answerOf, Meets, deliveredPart}
@@ -52,28 +52,28 @@ abbrev deliveredWhen : Packet → Effect → Packets
 deliveredWhen k d = cond (dataBit k && eqb (d .code) done) (deliveredPart (d .delivered) (encode k) ∷ []) []
 
 abbrev lostWhen : Bool → Effect → ℕ
-lostWhen counts d = one (counts && eqb (d .code) shortReply)
+lostWhen counts d = one (counts && eqb (d .code) replyTooSmall)
 
 module _ {w : World} {s : Both Peer} (f : BothFollow w s) {before later : Octets} {r : Outcome} where
   met : (e : Model → Effect) {d : Effect} → e (modelOf (s .left)) ≡ d → Met w before later r (e (view (w .left .link))) → Met w before later r d
   met e p m = subst (Met w before later r) (ap e (f .left .model) ∙ p) m
 
   -- ---- calls that bring no packet
-  refused : (c : ℕ) {accepted : Packets} → Met w before later r (refuse (modelOf (s .left)) c) → c ≢ illFormed → accepted ≡ []
+  refused : (c : ℕ) {accepted : Packets} → Met w before later r (refuse (modelOf (s .left)) c) → c ≢ badLink → accepted ≡ []
       → BothFollow (record { left = called r later accepted [] 0 (w .left); right = w .right }) s
   refused c m h e = record { left = follows-called m (f .left) (becomes-same c refl h (f .left .fits) e refl refl); right = f .right }
 
   start-follows : (short : Bool) → Met w before later r (startEffect short (modelOf (s .left)))
       → BothFollow (record { left = called r later [] [] 0 (w .left); right = w .right }) s
-  start-follows true m = refused shortReply m (λ e. omega (arith, e)) refl
+  start-follows true m = refused replyTooSmall m (λ e. omega (arith, e)) refl
   start-follows false m = refused noEntry m (λ e. omega (arith, e)) refl
 
   payload-follows : (p : Octets) (short long full : Bool) → (long ≡ false → length p ≤ maxPayload) → (full ≡ false → length (s .left .sender .queue) < slots)
       → Met w before later r (payloadEffect short long full (modelOf (s .left)) p)
       → BothFollow (record { left = called r later (acceptedBy p (r .answer)) [] 0 (w .left); right = w .right })
       (cond ((not short && not long) && not full) (record { left = accept rules p (s .left); right = s .right }) s)
-  payload-follows p true long full hl hf m = refused shortReply m (λ e. omega (arith, e)) (ap (acceptedBy p) (m .returns .answer))
-  payload-follows p false true full hl hf m = refused tooLong m (λ e. omega (arith, e)) (ap (acceptedBy p) (m .returns .answer))
+  payload-follows p true long full hl hf m = refused replyTooSmall m (λ e. omega (arith, e)) (ap (acceptedBy p) (m .returns .answer))
+  payload-follows p false true full hl hf m = refused payloadTooLong m (λ e. omega (arith, e)) (ap (acceptedBy p) (m .returns .answer))
   payload-follows p false false true hl hf m = refused queueFull m (λ e. omega (arith, e)) (ap (acceptedBy p) (m .returns .answer))
   payload-follows p false false false hl hf m = record {
     left = follows-called m (f .left) (becomes-accept (s .left) p (f .left .fits) (hf refl) (hl refl)
@@ -84,7 +84,7 @@ module _ {w : World} {s : Both Peer} (f : BothFollow w s) {before later : Octets
   timer-follows : (short waiting : Bool) → Met w before later r (timerEffect short waiting (modelOf (s .left)))
       → BothFollow (record { left = called r later [] [] 0 (w .left); right = w .right })
       (cond (not short && waiting) (record { left = sendAll rules (s .left); right = s .right }) s)
-  timer-follows true waiting m = refused shortReply m (λ e. omega (arith, e)) refl
+  timer-follows true waiting m = refused replyTooSmall m (λ e. omega (arith, e)) refl
   timer-follows false false m = refused noEntry m (λ e. omega (arith, e)) refl
   timer-follows false true m = record {
     left = follows-called m (f .left) (record {
@@ -139,7 +139,7 @@ module _ {w : World} {s : Both Peer} (f : BothFollow w s) {before later : Octets
       (record { left = s .left; right = withSender (lostOne (s .right .sender)) (withLine ks (s .right)) }))
   data-follows x p ks h hs true hit m =
       arrival-follows (dataPdu x p) ks h hs m (suc (s .right .sender .lost))
-      (becomes-same shortReply refl (λ e. omega (arith, e)) (f .left .fits) refl refl refl) (omega arith)
+      (becomes-same replyTooSmall refl (λ e. omega (arith, e)) (f .left .fits) refl refl refl) (omega arith)
   data-follows x p ks h hs false true m =
       arrival-follows (dataPdu x p) ks h hs m (s .right .sender .lost)
       (becomes-answer (delivering p (s .left .receiver)) refl refl (λ e. omega (arith, e)) refl (fits-takeData (s .left) (f .left .fits) true p)) (omega arith)

@@ -8,7 +8,7 @@ use mathlib.Core.List.{List, [], _∷_, IsPrefix}
 use lib.ListN.{length}
 use Rattle.window.specs.Sides.{left, right}
 use Rattle.dlc.specs.Limits.{slots}
-use Rattle.dlc.specs.Answers.{illFormed}
+use Rattle.dlc.specs.Answers.{badLink}
 use Rattle.dlc_pair.specs.World.{End, World, dataSent}
 use Rattle.dlc_pair.specs.History.{Event, History, final, TimerWaits}
 
@@ -24,7 +24,7 @@ Never c (x ∷ xs) = (x ≢ c) × Never c xs
 pub record OneWay (sender receiver : End) (Waited : Type 0) : Type 0 where
   pub prefix : IsPrefix (receiver .delivered) (sender .accepted)
   pub bound : Waited → dataSent sender ≤ length (sender .accepted) + slots * sender .lost
-  pub formed : Never illFormed (sender .answers)
+  pub formed : Never badLink (sender .answers)
 
 pub record Demand3 (es : List Event) (w : World) (h : History es w) : Type 0 where
   pub leftToRight : OneWay (final es w h .left) (final es w h .right) (TimerWaits left es w h)

@@ -14,7 +14,7 @@ use lib.Dec.{eqb}
 use Rattle.window.specs.Sides.{Side, left, right, mirror, AskedAt, eraseAt}
 use Rattle.dlc.specs.declared.Answer.{Answer}
 use Rattle.dlc.specs.declared.Outcome.{Outcome}
-use Rattle.dlc.specs.Answers.{done, shortReply}
+use Rattle.dlc.specs.Answers.{done, replyTooSmall}
 use Rattle.dlc.specs.Calls.{StartCall, TimerCall, PayloadCall, ArrivalCall, deliveredPart}
 use Rattle.dlc_pair.specs.World.{Octets, Packets, isData, isDack, one, count, packetsIn, End, World}
 
@@ -89,7 +89,7 @@ deliveredBy q a = cond (isData q && eqb (a .code) done) (deliveredPart (a .deliv
 
 -- "answer 26 makes the lent one lost"; the Bool says whether it would count
 abbrev pub lostBy : Bool → Answer → ℕ
-lostBy b a = one (b && eqb (a .code) shortReply)
+lostBy b a = one (b && eqb (a .code) replyTooSmall)
 
 -- an arrival at the left end, by the right end's line
 abbrev pub arrived : (line : Packets) (before : Octets) (w : World) → GivenFront line (w .left) before → World

@@ -2,7 +2,7 @@
 use mathlib.Core.Path.{_≡_}
 use mathlib.Core.List.{List, [], _∷_}
 use Rattle.window.specs.Sides.{left, right}
-use Rattle.dlc.specs.Answers.{illFormed}
+use Rattle.dlc.specs.Answers.{badLink}
 use Rattle.dlc.specs.Model.{Model, view}
 use Rattle.dlc_pair.specs.World.{Octets, Packets, End, dataSent}
 use Rattle.dlc_pair.specs.History.{start, timer, arrival, Event}
@@ -26,4 +26,4 @@ pub record Stands (e : End) (m : Model) (ks : Packets) : Type 0 where
   pub delivered : e .delivered ≡ []
   pub sent : dataSent e ≡ 0
   pub lost : e .lost ≡ 0
-  pub never : Never illFormed (e .answers)
+  pub never : Never badLink (e .answers)

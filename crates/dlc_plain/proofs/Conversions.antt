@@ -12,14 +12,14 @@ use Rattle.dlc.specs.declared.State.{State}
 use Rattle.dlc.specs.declared.State.the-variants.{Idle, Reset, Data, Wait}
 use Rattle.dlc.specs.declared.Link.{Link}
 use Rattle.dlc.specs.declared.Outcome.{Outcome}
-use Rattle.dlc.specs.Answers.{illFormed, done, refuses}
+use Rattle.dlc.specs.Answers.{badLink, done, refuses}
 use Rattle.dlc.specs.Model.{Model, wellFormed, view as linkView}
 use Rattle.dlc.specs.Events.{Effect, refuse, startOf, timerOf, payloadOf, arrivalOf}
 use Rattle.dlc.specs.Calls.{answerOf, Meets as LinkMeets}
 use Rattle.dlc.proofs.Refusals.{answered, start-refused, timer-refused, payload-refused, arrival-refused}
 use Rattle.dlc_plain.specs.declared.PlainLink.{PlainLink}
 use Rattle.dlc_plain.specs.declared.PlainOutcome.{PlainOutcome}
-use Rattle.dlc_plain.specs.Plain.{numberOf, stateOf, lastState, linkOf, plainOf, outcomeOf, view}
+use Rattle.dlc_plain.specs.Plain.{numberOf, stateOf, stateWait, linkOf, plainOf, outcomeOf, view}
 use Rattle.dlc_plain.specs.PlainCalls.{Meets}
 
 -- ---- there and back
@@ -29,34 +29,34 @@ state-again Reset = refl
 state-again Data = refl
 state-again Wait = refl
 
-known : (s : State) → leb (numberOf s) lastState ≡ true
+known : (s : State) → leb (numberOf s) stateWait ≡ true
 known Idle = refl
 known Reset = refl
 known Data = refl
 known Wait = refl
 
-number-again : (n : ℕ) → n ≤ lastState → numberOf (stateOf n) ≡ n
+number-again : (n : ℕ) → n ≤ stateWait → numberOf (stateOf n) ≡ n
 number-again zero h = refl
 number-again (suc zero) h = refl
 number-again (suc (suc zero)) h = refl
 number-again (suc (suc (suc zero))) h = refl
 number-again (suc (suc (suc (suc n)))) h = absurd (omega (arith, h))
 
-pub plain-again : (c : PlainLink) → c .state ≤ lastState → plainOf (linkOf c) ≡ c
+pub plain-again : (c : PlainLink) → c .state ≤ stateWait → plainOf (linkOf c) ≡ c
 plain-again c h = λ i. record { state = number-again (c .state) h i; queue = c .queue; base = c .base; expected = c .expected }
 
 -- the numbers of a link are seen as the link is
 pub view-plain : (l : Link) → view (plainOf l) ≡ linkView l
 view-plain l =
     let again : linkOf (plainOf l) ≡ l = λ i. record { state = state-again (l .state) i; queue = l .queue; base = l .base; expected = l .expected } in
-    let ok : (leb (numberOf (l .state)) lastState && wellFormed (linkOf (plainOf l))) ≡ wellFormed l = ap₂ _&&_ (known (l .state)) (ap wellFormed again) in
+    let ok : (leb (numberOf (l .state)) stateWait && wellFormed (linkOf (plainOf l))) ≡ wellFormed l = ap₂ _&&_ (known (l .state)) (ap wellFormed again) in
     λ i. record { ok = ok i; state = state-again (l .state) i; queue = linkView l .queue; base = l .base; expected = l .expected }
 
 -- ---- a state of the four: the link's call does it
-module _ (c : PlainLink) (h : c .state ≤ lastState) where
+module _ (c : PlainLink) (h : c .state ≤ stateWait) where
   pub view-link : view c ≡ linkView (linkOf c)
   view-link =
-      let ok : (leb (c .state) lastState && wellFormed (linkOf c)) ≡ wellFormed (linkOf c) = rw (le-leb _ _ h) in
+      let ok : (leb (c .state) stateWait && wellFormed (linkOf c)) ≡ wellFormed (linkOf c) = rw (le-leb _ _ h) in
       λ i. record { ok = ok i; state = stateOf (c .state); queue = linkView (linkOf c) .queue; base = c .base; expected = c .expected }
 
   -- f is the event of the step table, l the link by its numbers
@@ -72,28 +72,28 @@ module _ (c : PlainLink) (h : c .state ≤ lastState) where
       }
 
 -- ---- another number: the value is ill formed
-module _ (c : PlainLink) (h : lastState < c .state) where
+module _ (c : PlainLink) (h : stateWait < c .state) where
   module _ (room : ℕ) where
     -- what the refusals that all calls share answer
-    ill-formed : illFormed ≡ answered (view c) room
-    ill-formed = simp (lt-leb _ _ h)
+    bad-link : badLink ≡ answered (view c) room
+    bad-link = simp (lt-leb _ _ h)
 
-    not-done : illFormed ≡ done → ⊥
+    not-done : badLink ≡ done → ⊥
     not-done e = omega (arith, e)
 
-    pub start-ill : startOf (view c) room ≡ refuse (view c) illFormed
-    start-ill = start-refused (view c) room illFormed ill-formed not-done
+    pub start-bad : startOf (view c) room ≡ refuse (view c) badLink
+    start-bad = start-refused (view c) room badLink bad-link not-done
 
-    pub timer-ill : timerOf (view c) room ≡ refuse (view c) illFormed
-    timer-ill = timer-refused (view c) room illFormed ill-formed not-done
+    pub timer-bad : timerOf (view c) room ≡ refuse (view c) badLink
+    timer-bad = timer-refused (view c) room badLink bad-link not-done
 
-    pub payload-ill : (p : List ℕ) → payloadOf (view c) p room ≡ refuse (view c) illFormed
-    payload-ill = payload-refused (view c) room illFormed ill-formed not-done
+    pub payload-bad : (p : List ℕ) → payloadOf (view c) p room ≡ refuse (view c) badLink
+    payload-bad = payload-refused (view c) room badLink bad-link not-done
 
-    pub arrival-ill : (packet : List ℕ) → arrivalOf (view c) packet room ≡ refuse (view c) illFormed
-    arrival-ill = arrival-refused (view c) room illFormed ill-formed not-done
+    pub arrival-bad : (packet : List ℕ) → arrivalOf (view c) packet room ≡ refuse (view c) badLink
+    arrival-bad = arrival-refused (view c) room badLink bad-link not-done
 
-  pub refused : (d : Effect) (before : List ℕ) (r : PlainOutcome) → d ≡ refuse (view c) illFormed → r ≡ record { link = c; answer = answerOf (refuse (view c) illFormed) }
+  pub refused : (d : Effect) (before : List ℕ) (r : PlainOutcome) → d ≡ refuse (view c) badLink → r ≡ record { link = c; answer = answerOf (refuse (view c) badLink) }
       → Meets d c before before r
   unfolding flatten
   refused d before r e g =

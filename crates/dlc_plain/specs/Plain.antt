@@ -14,20 +14,28 @@ use Rattle.dlc.specs.Model.{Model, wellFormed}
 use Rattle.dlc_plain.specs.declared.PlainLink.{PlainLink}
 use Rattle.dlc_plain.specs.declared.PlainOutcome.{PlainOutcome}
 
--- the states' numbers, in the paper's order
-abbrev pub numberOf : State → ℕ
-numberOf Idle = 0
-numberOf Reset = 1
-numberOf Data = 2
-numberOf Wait = 3
+-- the states' numbers, in the paper's order: DLIDLE, DLRESET, DLDATA, DLDWAIT
+abbrev pub stateIdle : ℕ
+stateIdle = 0
 
--- the largest of them
-abbrev pub lastState : ℕ
-lastState = 3
+abbrev pub stateReset : ℕ
+stateReset = 1
+
+abbrev pub stateData : ℕ
+stateData = 2
+
+abbrev pub stateWait : ℕ
+stateWait = 3
+
+abbrev pub numberOf : State → ℕ
+numberOf Idle = stateIdle
+numberOf Reset = stateReset
+numberOf Data = stateData
+numberOf Wait = stateWait
 
 -- a state by its number; a number that is none of the four, which makes a value ill formed, counts as the last
 abbrev pub stateOf : ℕ → State
-stateOf n = cond (eqb n 0) Idle (cond (eqb n 1) Reset (cond (eqb n 2) Data Wait))
+stateOf n = cond (eqb n stateIdle) Idle (cond (eqb n stateReset) Reset (cond (eqb n stateData) Data Wait))
 
 abbrev pub linkOf : PlainLink → Link
 linkOf c = record { state = stateOf (c .state); queue = c .queue; base = c .base; expected = c .expected }
@@ -40,7 +48,7 @@ outcomeOf o = record { link = plainOf (o .link); answer = o .answer }
 
 abbrev pub view : PlainLink → Model
 view c = record {
-  ok = leb (c .state) lastState && wellFormed (linkOf c);
+  ok = leb (c .state) stateWait && wellFormed (linkOf c);
   state = stateOf (c .state);
   queue = payloads (c .queue);
   base = c .base;

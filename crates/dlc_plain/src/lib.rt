@@ -2,26 +2,26 @@
 // The four events are those of the crate dlc. A state that is none of the four makes the value ill formed: answered with 27, as there.
 ghost use mathlib.Core.Path.{_≡_};
 ghost use Rattle.dlc.specs.Model.{fresh};
-ghost use Rattle.dlc.specs.Answers.{illFormed};
+ghost use Rattle.dlc.specs.Answers.{badLink};
 ghost use Rattle.dlc.specs.Events.{refuse};
 ghost use Rattle.dlc.specs.Calls.{answerOf};
 ghost use Rattle.dlc_plain.specs.Plain.{numberOf, stateOf, linkOf, plainOf, outcomeOf, view};
 ghost use Rattle.dlc_plain.specs.PlainCalls.{StartCall, TimerCall, PayloadCall, ArrivalCall};
 use dlc::Answer;
-use dlc::ILL_FORMED;
+use dlc::BAD_LINK;
 use dlc::Link;
 use dlc::Outcome;
 use dlc::State;
 use dlc_queue::Queue;
 
 // The numbers of the states, in the paper's order.
-pub const IDLE: u8 = 0;
+pub const STATE_IDLE: u8 = 0;
 
-pub const RESET: u8 = 1;
+pub const STATE_RESET: u8 = 1;
 
-pub const DATA: u8 = 2;
+pub const STATE_DATA: u8 = 2;
 
-pub const WAIT: u8 = 3;
+pub const STATE_WAIT: u8 = 3;
 
 #[repr(C)]
 pub struct PlainLink {
@@ -49,8 +49,8 @@ impl PlainLink {
     pub fn start(self, reply: &mut [u8]) -> PlainOutcome
         ensures { λ r. ⌜ StartCall self (now (reply .entry)) (now (reply .exit)) r ⌝ }
     {
-        if WAIT < self.state {
-            return self.ill_formed();
+        if STATE_WAIT < self.state {
+            return self.bad_link();
         }
         plain_outcome(self.link().start(reply))
     }
@@ -59,8 +59,8 @@ impl PlainLink {
     pub fn timer(self, reply: &mut [u8]) -> PlainOutcome
         ensures { λ r. ⌜ TimerCall self (now (reply .entry)) (now (reply .exit)) r ⌝ }
     {
-        if WAIT < self.state {
-            return self.ill_formed();
+        if STATE_WAIT < self.state {
+            return self.bad_link();
         }
         plain_outcome(self.link().timer(reply))
     }
@@ -69,8 +69,8 @@ impl PlainLink {
     pub fn payload(self, p: &[u8], reply: &mut [u8]) -> PlainOutcome
         ensures { λ r. ⌜ PayloadCall self (now (p .entry)) (now (reply .entry)) (now (reply .exit)) r ⌝ }
     {
-        if WAIT < self.state {
-            return self.ill_formed();
+        if STATE_WAIT < self.state {
+            return self.bad_link();
         }
         plain_outcome(self.link().payload(p, reply))
     }
@@ -79,8 +79,8 @@ impl PlainLink {
     pub fn arrival(self, packet: &[u8], reply: &mut [u8]) -> PlainOutcome
         ensures { λ r. ⌜ ArrivalCall self (now (packet .entry)) (now (reply .entry)) (now (reply .exit)) r ⌝ }
     {
-        if WAIT < self.state {
-            return self.ill_formed();
+        if STATE_WAIT < self.state {
+            return self.bad_link();
         }
         plain_outcome(self.link().arrival(packet, reply))
     }
@@ -100,13 +100,13 @@ impl PlainLink {
     }
 
     // A value whose state is none of the four comes back as it is.
-    fn ill_formed(self) -> PlainOutcome
-        ensures { λ r. ⌜ r ≡ record { link = self; answer = answerOf (refuse (view self) illFormed) } ⌝ }
+    fn bad_link(self) -> PlainOutcome
+        ensures { λ r. ⌜ r ≡ record { link = self; answer = answerOf (refuse (view self) badLink) } ⌝ }
     {
         PlainOutcome {
             link: self,
             answer: Answer {
-                code: ILL_FORMED,
+                code: BAD_LINK,
                 upper_reset: false,
                 delivered: false,
                 sent: 0,
@@ -120,13 +120,13 @@ impl PlainLink {
 fn state_of(n: u8) -> State
     ensures { λ r. ⌜ r ≡ stateOf n ⌝ }
 {
-    if n == IDLE {
+    if n == STATE_IDLE {
         return State::Idle;
     }
-    if n == RESET {
+    if n == STATE_RESET {
         return State::Reset;
     }
-    if n == DATA {
+    if n == STATE_DATA {
         return State::Data;
     }
     State::Wait
@@ -136,10 +136,10 @@ fn number_of(s: State) -> u8
     ensures { λ r. ⌜ r ≡ numberOf s ⌝ }
 {
     match s {
-        State::Idle => IDLE,
-        State::Reset => RESET,
-        State::Data => DATA,
-        State::Wait => WAIT,
+        State::Idle => STATE_IDLE,
+        State::Reset => STATE_RESET,
+        State::Data => STATE_DATA,
+        State::Wait => STATE_WAIT,
     }
 }
 

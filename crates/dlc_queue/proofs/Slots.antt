@@ -3,7 +3,7 @@ use Prim.Native.Nat.{ℕ, _+_, _-_, _<_, _≤_}
 use native.Mathlib.Numerals.{add-one}
 use native.Mathlib.Omega.{arith}
 use mathlib.Core.Path.{_≡_, refl, sym, ap, _∙_}
-use mathlib.Core.Bool.{true, false}
+use mathlib.Core.Bool.{Bool, true, false, false≢true}
 use mathlib.Core.List.{List, [], _∷_, _++_, map}
 use lib.ListN.{length, take, drop, set, length-map}
 use lib.Seq.{take-suc-set, length-take-le}
@@ -15,6 +15,10 @@ use Rattle.dlc_queue.specs.declared.Queue.{Queue}
 use Rattle.dlc_queue.specs.Queue.{slots, octetsOf, used, payloads, allShort, formed, hasRoom, hasOldest, Pushed, Removed}
 use Rattle.dlc_queue.proofs.Lists.{map-drop, map-snoc}
 use Rattle.dlc_queue.proofs.Short.{both, short-snoc, short-drop}
+
+-- a test has one answer
+differ : {b : Bool} → b ≡ false → b ≡ true → ⊥
+differ e t = false≢true (sym e ∙ t)
 
 module _ (q : Queue) where
   pub formed-count : formed q ≡ true → q .count ≤ slots
@@ -45,15 +49,19 @@ module _ (q : Queue) where
 
 -- the queue after push, in its three cases
 module _ (q : Queue) (p : List ℕ) where
+  -- where it can't be queued, the queue as it came
+  pushed-kept : hasRoom q p ≡ false → Pushed q p q
+  pushed-kept e = record { count = λ t. absurd (differ e t); queue = λ t. absurd (differ e t); formed = λ t. absurd (differ e t); kept = λ _. refl }
+
   pub pushed-full : slots ≤ q .count → Pushed q p q
   pushed-full h =
       let e : hasRoom q p ≡ false = rw (le-ltb _ _ h) in
-      record { count = rw e; queue = rw e; formed = refl }
+      pushed-kept e
 
   pub pushed-over : q .count < slots → maxPayload < length p → Pushed q p q
   pushed-over h k =
       let e : hasRoom q p ≡ false = rw (lt-ltb _ _ h, lt-leb _ _ k) in
-      record { count = rw e; queue = rw e; formed = refl }
+      pushed-kept e
 
   pub pushed-room : (x : Payload) → length (q .slots) ≡ slots → q .count < slots → length p ≤ maxPayload → x .len ≡ length p → octetsOf x ≡ p
       → Pushed q p (record { count = q .count + 1; slots = set (q .slots) (q .count) x })
@@ -63,50 +71,58 @@ module _ (q : Queue) (p : List ℕ) where
       let i : q .count < length (q .slots) = omega arith in
       let t : used r ≡ used q ++ (x ∷ []) = rw add-one (take-suc-set (q .slots) (q .count) x i) in
       record {
-        count = rw e;
-        queue = rw e (ap (map octetsOf) t ∙ map-snoc octetsOf (used q) x ∙ ap (λ (y : List ℕ). payloads q ++ (y ∷ [])) o);
+        count = λ _. refl;
+        queue = λ _. ap (map octetsOf) t ∙ map-snoc octetsOf (used q) x ∙ ap (λ (y : List ℕ). payloads q ++ (y ∷ [])) o;
         formed =
-            within-formed r (omega arith)
+            λ _. within-formed r (omega arith)
             ∙ ap allShort t
             ∙ short-snoc (used q) x (omega (arith, n))
             ∙ sym (within-formed q (omega arith));
+        kept = λ t. absurd (differ t e);
       }
 
 -- the queue after remove
 module _ (q : Queue) (n : ℕ) where
+  -- where that many are not there, the queue as it came
+  removed-kept : hasOldest q n ≡ false → Removed q n q
+  removed-kept e = record { count = λ t. absurd (differ e t); used = λ t. absurd (differ e t); kept = λ _. refl }
+
   pub removed-over : slots < q .count → Removed q n q
   removed-over h =
       let e : hasOldest q n ≡ false = rw (lt-leb _ _ h) in
-      record { count = rw e; used = rw e }
+      removed-kept e
 
   pub removed-fewer : q .count ≤ slots → q .count < n → Removed q n q
   removed-fewer h k =
       let e : hasOldest q n ≡ false = rw (le-leb _ _ h, lt-leb _ _ k) in
-      record { count = rw e; used = rw e }
+      removed-kept e
 
   pub removed-oldest : (r : List Payload) → q .count ≤ slots → n ≤ q .count → take (q .count - n) r ≡ drop n (used q)
       → Removed q n (record { count = q .count - n; slots = r })
   removed-oldest r h k t =
       let e : hasOldest q n ≡ true = rw (le-leb _ _ h, le-leb _ _ k) in
-      record { count = rw e; used = rw e t }
+      record { count = λ _. refl; used = λ _. t; kept = λ z. absurd (differ z e) }
 
 -- what a caller learns of a queue that it pushed to or removed from
 module _ (q r : Queue) (ok : formed q ≡ true) where
   pub push-count : (p : List ℕ) → q .count < slots → length p ≤ maxPayload → Pushed q p r → r .count ≡ q .count + 1
-  push-count p h k m = let e : hasRoom q p ≡ true = rw (lt-ltb _ _ h, le-leb _ _ k) in m .count ∙ rw e
+  push-count p h k m = m .count (rw (lt-ltb _ _ h, le-leb _ _ k))
 
   pub push-payloads : (p : List ℕ) → q .count < slots → length p ≤ maxPayload → Pushed q p r → payloads r ≡ payloads q ++ (p ∷ [])
-  push-payloads p h k m = let e : hasRoom q p ≡ true = rw (lt-ltb _ _ h, le-leb _ _ k) in m .queue ∙ rw e
+  push-payloads p h k m = m .queue (rw (lt-ltb _ _ h, le-leb _ _ k))
+
+  pub push-formed : (p : List ℕ) → q .count < slots → length p ≤ maxPayload → Pushed q p r → formed r ≡ true
+  push-formed p h k m = m .formed (rw (lt-ltb _ _ h, le-leb _ _ k)) ∙ ok
 
   module _ (n : ℕ) (h : n ≤ q .count) (m : Removed q n r) where
     oldest : hasOldest q n ≡ true
     oldest = rw (le-leb _ _ (formed-count q ok), le-leb _ _ h)
 
     pub remove-count : r .count ≡ q .count - n
-    remove-count = m .count ∙ rw oldest
+    remove-count = m .count oldest
 
     remove-used : used r ≡ drop n (used q)
-    remove-used = m .used ∙ rw oldest
+    remove-used = m .used oldest
 
     pub remove-payloads : payloads r ≡ drop n (payloads q)
     remove-payloads = ap (map octetsOf) remove-used ∙ map-drop octetsOf n (used q)

@@ -3,10 +3,10 @@
 --
 --   payloads q     the payloads that a queue holds; octets past a payload's length and slots past the count are free, and no part of it
 --   formed q       whether a queue value is one: at most 7 payloads, none over 256 octets
---   pushed q p     what push makes of it, removed q n what remove makes of it
+--   Pushed q p, Removed q n     what push and remove make of it
 use Prim.Native.Nat.{ℕ, _+_, _-_, _*_}
 use mathlib.Core.Path.{_≡_}
-use mathlib.Core.Bool.{Bool, true, cond, _&&_}
+use mathlib.Core.Bool.{Bool, true, false, _&&_}
 use mathlib.Core.List.{List, [], _∷_, _++_, map}
 use lib.ListN.{length, take, drop}
 use lib.Dec.{leb, ltb}
@@ -47,17 +47,19 @@ formed q = leb (q .count) slots && allShort (used q)
 abbrev pub hasRoom : Queue → List ℕ → Bool
 hasRoom q p = ltb (q .count) slots && leb (length p) maxPayload
 
--- the queue after push: the payload behind the others; without room for it, or where it is too long, the queue as it came
+-- the queue after push: the payload behind the others; without room for it, or where it is too long, the very queue that came
 pub record Pushed (q : Queue) (p : List ℕ) (r : Queue) : Type 0 where
-  pub count : r .count ≡ cond (hasRoom q p) (q .count + 1) (q .count)
-  pub queue : payloads r ≡ cond (hasRoom q p) (payloads q ++ (p ∷ [])) (payloads q)
-  pub formed : formed r ≡ formed q
+  pub count : hasRoom q p ≡ true → r .count ≡ q .count + 1
+  pub queue : hasRoom q p ≡ true → payloads r ≡ payloads q ++ (p ∷ [])
+  pub formed : hasRoom q p ≡ true → formed r ≡ formed q
+  pub kept : hasRoom q p ≡ false → r ≡ q
 
 -- whether that many payloads are there to be removed
 abbrev pub hasOldest : Queue → ℕ → Bool
 hasOldest q n = leb (q .count) slots && leb n (q .count)
 
--- the queue after remove: without its n oldest payloads; where it holds fewer, or is none, the queue as it came
+-- the queue after remove: without its n oldest payloads; where it holds fewer, or is none, the very queue that came
 pub record Removed (q : Queue) (n : ℕ) (r : Queue) : Type 0 where
-  pub count : r .count ≡ cond (hasOldest q n) (q .count - n) (q .count)
-  pub used : used r ≡ cond (hasOldest q n) (drop n (used q)) (used q)
+  pub count : hasOldest q n ≡ true → r .count ≡ q .count - n
+  pub used : hasOldest q n ≡ true → used r ≡ drop n (used q)
+  pub kept : hasOldest q n ≡ false → r ≡ q

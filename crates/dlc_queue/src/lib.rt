@@ -78,7 +78,7 @@ impl Queue {
     }
 
     // Removes the n oldest payloads; where there are fewer, or this is no queue, it comes back as it is.
-    pub fn remove(self, n: usize) -> Queue
+    pub fn remove(mut self, n: usize) -> Queue
         ensures { λ r. ⌜ Removed self n r ⌝ }
     {
         let count = self.count;
@@ -90,10 +90,9 @@ impl Queue {
         }
         let slots = self.slots;
         let moved = moved_down(slots, count, n);
-        Queue {
-            count: count - n,
-            slots: moved,
-        }
+        self.slots = moved;
+        self.count = count - n;
+        self
     }
 
     // Writes every payload as a DATA packet to the front of reply, oldest first, the oldest with the number base; returns the lengths.

@@ -1,5 +1,6 @@
 -- `Link::clear`: the link as RESET leaves it, and RESET_ACK. Assumes nothing.
 use mathlib.Core.Path.{refl}
+use Rattle.dlc_packet.specs.Packet.{resetAckOctet}
 use Rattle.dlc.specs.declared.State.the-variants.{Data}
 use Rattle.dlc.specs.Model.{view}
 use Rattle.dlc.specs.Events.{cleared}
@@ -19,7 +20,7 @@ same-length c = search needs
 returns : tie.Need-returns
 returns c =
     let l = c .before .before .before .before .before .before .args .self in
-    one-meets (cleared (view l)) l (record { state = Data; queue = record { count = 0; slots = l .queue .slots }; base = 0; expected = 0 }) 32 _ _ _ refl refl
+    one-meets (cleared (view l)) l (record { state = Data; queue = record { count = 0; slots = l .queue .slots }; base = 0; expected = 0 }) resetAckOctet _ _ _ refl refl
     (view-cleared l (c .before .before .before .before .before .before .pre .0) (record { count = 0; slots = l .queue .slots }) refl) (c .before .before .send-one .ensures)
 
 pub clear-spec : {M : Type 1} → statement M

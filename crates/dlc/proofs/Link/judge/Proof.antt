@@ -3,6 +3,7 @@ use Prim.Native.Nat.{ℕ, _+_}
 use mathlib.Core.Path.{_≡_, refl, sym, ap, _∙_}
 use mathlib.Core.List.{[], _∷_}
 use Rattle.dlc_packet.specs.Numbers.{advance, dackNumber}
+use Rattle.dlc_packet.specs.Packet.{dackOctet}
 use Rattle.dlc.specs.Model.{view}
 use Rattle.dlc.proofs.Parts.{parts}
 use Rattle.dlc.proofs.Views.{view-expectNext}
@@ -40,9 +41,9 @@ returns : tie.Need-returns
 returns c =
     let l = c .before .before .before .before .before .before .before .before .args .self in
     let e : c .before .before .before .before .before .advanced .result ≡ advance (l .expected) 1 = c .before .before .before .before .before .advanced .ensures in
-    let d : 80 + c .before .before .before .before .dack-number .result ≡ 80 + dackNumber (advance (l .expected) 1) = ap (λ (n : ℕ). 80 + n) (c .before .before .before .before .dack-number .ensures ∙ e) in
+    let d : dackOctet + c .before .before .before .before .dack-number .result ≡ dackOctet + dackNumber (advance (l .expected) 1) = ap (λ (n : ℕ). dackOctet + n) (c .before .before .before .before .dack-number .ensures ∙ e) in
     meets-by _ (taken (view l)) _ _ _ _ (judged-same (view l) (c .before .before .before .before .before .before .before .before .args .x) (c .before .before .before .before .before .before .if1 .taken))
-    (one-meets (taken (view l)) l (record { state = l .state; queue = l .queue; base = l .base; expected = c .before .before .before .before .before .advanced .result }) (80 + c .before .before .before .before .dack-number .result) _ _ _ refl
+    (one-meets (taken (view l)) l (record { state = l .state; queue = l .queue; base = l .base; expected = c .before .before .before .before .before .advanced .result }) (dackOctet + c .before .before .before .before .dack-number .result) _ _ _ refl
     (ap (λ (n : ℕ). (n ∷ []) ∷ []) (sym d)) (view-expectNext l (c .before .before .before .before .before .before .before .before .pre .0) (c .before .before .before .before .before .advanced .result) (c .before .before .before .before .before .before .before .before .pre .1 .0) e) (c .before .before .send-one .ensures))
 
 same-length-2 : tie.Need-same-length-2
@@ -51,9 +52,9 @@ same-length-2 c = search needs
 returns-2 : tie.Need-returns-2
 returns-2 c =
     let l = c .before .before .before .before .before .before .before .args .self in
-    let d : 80 + c .before .before .before .before .dack-number2 .result ≡ 80 + dackNumber (l .expected) = ap (λ (n : ℕ). 80 + n) (c .before .before .before .before .dack-number2 .ensures) in
+    let d : dackOctet + c .before .before .before .before .dack-number2 .result ≡ dackOctet + dackNumber (l .expected) = ap (λ (n : ℕ). dackOctet + n) (c .before .before .before .before .dack-number2 .ensures) in
     meets-by _ (other (view l)) _ _ _ _ (judged-other (view l) (c .before .before .before .before .before .before .before .args .x) (c .before .before .before .before .before .if1 .left))
-    (one-meets (other (view l)) l l (80 + c .before .before .before .before .dack-number2 .result) _ _ _ refl
+    (one-meets (other (view l)) l l (dackOctet + c .before .before .before .before .dack-number2 .result) _ _ _ refl
     (ap (λ (n : ℕ). (n ∷ []) ∷ []) (sym d)) refl (c .before .before .send-one2 .ensures))
 
 pub judge-spec : {M : Type 1} → statement M

@@ -6,7 +6,7 @@ use mathlib.Core.Bool.{true}
 use lib.ListN.{length}
 use denote.Ref.{now}
 use Rattle.dlc_queue.specs.Queue.{slots}
-use Rattle.dlc.specs.Answers.{notOpen, queueFull, tooLong}
+use Rattle.dlc.specs.Answers.{notOpen, queueFull, payloadTooLong}
 use Rattle.dlc.specs.Model.{wellFormed, view}
 use Rattle.dlc.specs.Events.{withPayload}
 use Rattle.dlc.proofs.Parts.{length-queue}
@@ -34,7 +34,7 @@ silent-requires-2 c κs = tt
 returns-2 : tie.Need-returns-2
 returns-2 c =
     let s = c .before .before .before .before .before .before in
-    refused-meets _ _ tooLong _ _ (payload-tooLong (view (s .args .self)) (length (now (s .args .reply))) (c .before .before .before .refusal .result) (c .before .before .before .refusal .ensures) (c .before .before .if1 .left) (now (s .args .p)) (c .before .if2 .taken)) (c .silent2 .ensures)
+    refused-meets _ _ payloadTooLong _ _ (payload-tooLong (view (s .args .self)) (length (now (s .args .reply))) (c .before .before .before .refusal .result) (c .before .before .before .refusal .ensures) (c .before .before .if1 .left) (now (s .args .p)) (c .before .if2 .taken)) (c .silent2 .ensures)
 
 is-open-requires : tie.Need-is-open-requires
 is-open-requires c κs = tt

@@ -5,14 +5,14 @@ use lib.ListN.{length}
 use denote.Ref.{now}
 use Rattle.dlc.specs.Model.{Model}
 use Rattle.dlc.specs.Events.{arrivalOf}
-use Rattle.dlc_plain.specs.Plain.{lastState}
-use Rattle.dlc_plain.proofs.Conversions.{passed, arrival-ill, refused}
+use Rattle.dlc_plain.specs.Plain.{stateWait}
+use Rattle.dlc_plain.proofs.Conversions.{passed, arrival-bad, refused}
 use Rattle.dlc_plain.proofs.PlainLink.arrival.Statement.{statement}
 use Rattle.dlc_plain.proofs.PlainLink.arrival.Tie as tie
 use borrow.Author.Needs.{needs}
 
-ill-formed-requires : tie.Need-ill-formed-requires
-ill-formed-requires c κs = tt
+bad-link-requires : tie.Need-bad-link-requires
+bad-link-requires c κs = tt
 
 returns : tie.Need-returns
 returns c =
@@ -20,8 +20,8 @@ returns c =
     let l = args .self in
     let before = now (args .reply) in
     let octets = now (args .packet) in
-    let h : lastState < l .state = omega (arith, c .before .if1 .taken) in
-    refused l h _ before _ (arrival-ill l h (length before) octets) (c .ill-formed .ensures)
+    let h : stateWait < l .state = omega (arith, c .before .if1 .taken) in
+    refused l h _ before _ (arrival-bad l h (length before) octets) (c .bad-link .ensures)
 
 link-requires : tie.Need-link-requires
 link-requires c κs = tt
@@ -41,8 +41,8 @@ returns-2 c =
     let l = args .self in
     let before = now (args .reply) in
     let octets = now (args .packet) in
-    let h : l .state ≤ lastState = omega (arith, c .before .before .before .before .before .before .if1 .left) in
+    let h : l .state ≤ stateWait = omega (arith, c .before .before .before .before .before .before .if1 .left) in
     passed l h (λ (m : Model). arrivalOf m octets (length before)) before _ _ _ _ (c .before .before .before .before .before .link .ensures) (c .before .before .before .arrival .ensures) (c .plain-outcome .ensures)
 
 pub arrival-spec : {M : Type 1} → statement M
-arrival-spec = tie.close (tie.spec ill-formed-requires returns link-requires arrival-requires plain-outcome-requires same-length returns-2)
+arrival-spec = tie.close (tie.spec bad-link-requires returns link-requires arrival-requires plain-outcome-requires same-length returns-2)

@@ -5,22 +5,22 @@ use lib.ListN.{length}
 use denote.Ref.{now}
 use Rattle.dlc.specs.Model.{Model}
 use Rattle.dlc.specs.Events.{startOf}
-use Rattle.dlc_plain.specs.Plain.{lastState}
-use Rattle.dlc_plain.proofs.Conversions.{passed, start-ill, refused}
+use Rattle.dlc_plain.specs.Plain.{stateWait}
+use Rattle.dlc_plain.proofs.Conversions.{passed, start-bad, refused}
 use Rattle.dlc_plain.proofs.PlainLink.start.Statement.{statement}
 use Rattle.dlc_plain.proofs.PlainLink.start.Tie as tie
 use borrow.Author.Needs.{needs}
 
-ill-formed-requires : tie.Need-ill-formed-requires
-ill-formed-requires c κs = tt
+bad-link-requires : tie.Need-bad-link-requires
+bad-link-requires c κs = tt
 
 returns : tie.Need-returns
 returns c =
     let args = c .before .before .before .before .args in
     let l = args .self in
     let before = now (args .reply) in
-    let h : lastState < l .state = omega (arith, c .before .if1 .taken) in
-    refused l h _ before _ (start-ill l h (length before)) (c .ill-formed .ensures)
+    let h : stateWait < l .state = omega (arith, c .before .if1 .taken) in
+    refused l h _ before _ (start-bad l h (length before)) (c .bad-link .ensures)
 
 link-requires : tie.Need-link-requires
 link-requires c κs = tt
@@ -39,8 +39,8 @@ returns-2 c =
     let args = c .before .before .before .before .before .before .before .before .before .args in
     let l = args .self in
     let before = now (args .reply) in
-    let h : l .state ≤ lastState = omega (arith, c .before .before .before .before .before .before .if1 .left) in
+    let h : l .state ≤ stateWait = omega (arith, c .before .before .before .before .before .before .if1 .left) in
     passed l h (λ (m : Model). startOf m (length before)) before _ _ _ _ (c .before .before .before .before .before .link .ensures) (c .before .before .before .start .ensures) (c .plain-outcome .ensures)
 
 pub start-spec : {M : Type 1} → statement M
-start-spec = tie.close (tie.spec ill-formed-requires returns link-requires start-requires plain-outcome-requires same-length returns-2)
+start-spec = tie.close (tie.spec bad-link-requires returns link-requires start-requires plain-outcome-requires same-length returns-2)
