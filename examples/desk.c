@@ -71,7 +71,7 @@ static void print_answer(hasfandur_qaft_answer a, const uint8_t *buffer)
 {
     printf("  %u, took %zu, state %d %d %zu %02X", (unsigned)a.number, a.taken, a.reader.synced, a.reader.pending,
            a.reader.count, a.reader.sum);
-    if (a.number == HASFANDUR_FRAME) {
+    if (a.number == HASFANDUR_QAFT_FRAME) {
         printf(", data");
         print_octets(buffer, a.length);
     }
@@ -81,7 +81,7 @@ static void print_answer(hasfandur_qaft_answer a, const uint8_t *buffer)
 /* Reads a line in two chunks, handing on the rest of each after a report. */
 static void read_case(const char *name, uint8_t level, const uint8_t *line, size_t cut, size_t length)
 {
-    static uint8_t buffer[HASFANDUR_QAFT_BUFFER];
+    static uint8_t buffer[HASFANDUR_QAFT_MAX_SEGMENT];
     const size_t ends[] = {cut, length};
     hasfandur_qaft_reader state = hasfandur_qaft_fresh(level);
     size_t at = 0;
@@ -93,7 +93,7 @@ static void read_case(const char *name, uint8_t level, const uint8_t *line, size
             state = a.reader;
             at += a.taken;
             print_answer(a, buffer);
-        } while (HASFANDUR_FRAME <= a.number && a.number <= HASFANDUR_BAD_CHECK);
+        } while (HASFANDUR_QAFT_FRAME <= a.number && a.number <= HASFANDUR_QAFT_BAD_CHECK);
     }
 }
 
@@ -102,7 +102,7 @@ static void read_cases(void)
     /* the paper's example, cut behind a 7D */
     static const uint8_t line[] = {0xAA, 0x7E, 0x40, 0x41, 0x7F, 0x7E, 0x10, 0x7D, 0x7E, 0x7E, 0x05, 0x7E, 0x33};
     static const uint8_t pair[] = {0x7E, 0x7D, 0x5E, 0x82, 0x7E, 0x41, 0xBE, 0x7E};
-    static uint8_t buffer[HASFANDUR_QAFT_BUFFER];
+    static uint8_t buffer[HASFANDUR_QAFT_MAX_SEGMENT];
     read_case("read the paper's line", 0, line, 8, sizeof line);
     read_case("read 7D 5E 82, cut behind 7D", 1, pair, 2, sizeof pair);
 
