@@ -130,7 +130,7 @@ static void limits(end *e)
 /* Worked on paper: with numbers 14 and 15 queued DACK 1 is refused, and DACK 0 empties the queue. */
 static void restart(void)
 {
-    static const uint8_t dack_1[] = {0x51}, dack_0[] = {0x50}, data_15[] = {0x4F};
+    static const uint8_t dack_1[] = {HASFANDUR_DLC_DACK + 1}, dack_0[] = {HASFANDUR_DLC_DACK}, data_15[] = {HASFANDUR_DLC_DATA + 15};
     end e = fresh("14 and 15 queued");
     e.link.state = HASFANDUR_DLC_STATE_WAIT;
     e.link.queue.count = 2;
@@ -173,6 +173,20 @@ static void refusals(void)
     timer(&e);
 }
 
+/* A zeroed link is a fresh one; no octets may have no place. */
+static void zeroed(void)
+{
+    static const uint8_t reset[] = {HASFANDUR_DLC_RESET};
+    end e = fresh("zeroed");
+    memset(&e.link, 0, sizeof e.link);
+    arrival(&e, NULL, 0);
+    start(&e);
+    timer(&e);
+    arrival(&e, reset, sizeof reset);
+    payload(&e, NULL, 0);
+    take(&e, "timer", hasfandur_dlc_timer(e.link, NULL, 0));
+}
+
 int main(void)
 {
     end here = fresh("here"), there = fresh("there");
@@ -181,5 +195,6 @@ int main(void)
     limits(&here);
     restart();
     refusals();
+    zeroed();
     return 0;
 }

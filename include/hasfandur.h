@@ -7,7 +7,7 @@
  * says: a pointer to `length` octets that are the caller's, and that no other argument overlaps where they are written. That
  * this header says of them what is proved is compared and tested (numbers, types, every call), not proved.
  * No function allocates, keeps a pointer, or fails: what it can't do it refuses by a number, and a refusal writes nothing.
- * A pointer with length 0 is not read; it must still not be null.
+ * A pointer with length 0 is not read, and may be null.
  */
 #ifndef HASFANDUR_H
 #define HASFANDUR_H
