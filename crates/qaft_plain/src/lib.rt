@@ -66,10 +66,11 @@ impl PlainReader {
     fn later(self, outcome: Outcome, next: Reader) -> PlainReader
         ensures { λ r. ⌜ r ≡ later self outcome next ⌝ }
     {
+        let numbers = plain(next);
         match outcome {
             Outcome::Refused(_) => self,
-            Outcome::Reported(_) => plain(next),
-            Outcome::UsedUp => plain(next),
+            Outcome::Reported(_) => numbers,
+            Outcome::UsedUp => numbers,
         }
     }
 }
