@@ -57,6 +57,13 @@ def definition(file, name):
     raise Wrong(f"no definition {name} in crates/{file}.antt")
 
 
+def defined(file):
+    """The numbers that a file of definitions has, by their names."""
+    old = {o: name for name, o in OLD.items()}
+    names = re.findall(r"^abbrev pub (\w+) : ℕ$", (TOP / "crates" / f"{file}.antt").read_text(), re.M)
+    return {old.get(name, name) for name in names}
+
+
 def number(crate, place, name):
     """A number that code and definitions say alike; either may be None where it is said once. The definitions' place is a file
     and, behind a dot, the name there where it is not the code's in camelCase."""

@@ -269,9 +269,10 @@ typedef struct hasfandur_dlc_queue {
  * One end of a DLC link, which goes from call to call by value: a hasfandur_dlc_state; the payloads that the other end has
  * not acknowledged; the oldest one's number (the next to be given where there is none); the number expected next.
  *
- * It is well formed where the state is at most 3, the count at most 7, each of the first `count` lengths at most 256, both
- * numbers at most 15, the state HASFANDUR_DLC_STATE_WAIT exactly where the queue is not empty, and both numbers 0 in
- * HASFANDUR_DLC_STATE_IDLE and HASFANDUR_DLC_STATE_RESET. A fresh link is so, and what an event gives back for such a link.
+ * It is well formed where the state is one of the four, the count at most HASFANDUR_DLC_SLOTS, each of the first `count` lengths
+ * at most HASFANDUR_DLC_MAX_PAYLOAD, both numbers at most 15, the state HASFANDUR_DLC_STATE_WAIT exactly where the queue is not
+ * empty, and both numbers 0 in HASFANDUR_DLC_STATE_IDLE and HASFANDUR_DLC_STATE_RESET. A fresh link is so, and what an event
+ * gives back for such a link.
  *
  * No answer depends on what free slots hold, or a slot's octets behind its payload. After a refusal they are as they came;
  * after any other answer nothing is promised of them.
@@ -325,7 +326,7 @@ HASFANDUR_MUST_USE hasfandur_dlc_outcome hasfandur_dlc_start(hasfandur_dlc_link 
 HASFANDUR_MUST_USE hasfandur_dlc_outcome hasfandur_dlc_timer(hasfandur_dlc_link link, uint8_t *reply, size_t reply_length);
 
 /*
- * A payload to be sent, of 0 to 256 octets: it is queued, and the state is HASFANDUR_DLC_STATE_WAIT. The timer sends it.
+ * A payload to be sent, which may be empty: it is queued, and the state is HASFANDUR_DLC_STATE_WAIT. The timer sends it.
  * HASFANDUR_DLC_PAYLOAD_TOO_LONG; HASFANDUR_DLC_NOT_OPEN (in HASFANDUR_DLC_STATE_IDLE and HASFANDUR_DLC_STATE_RESET);
  * HASFANDUR_DLC_QUEUE_FULL.
  */
@@ -333,8 +334,8 @@ HASFANDUR_MUST_USE hasfandur_dlc_outcome hasfandur_dlc_payload(hasfandur_dlc_lin
                                                                size_t payload_length, uint8_t *reply, size_t reply_length);
 
 /*
- * A packet arrived. HASFANDUR_DLC_BAD_PACKET in every state: it is empty, of no kind below, over 257 octets, or not DATA and
- * longer than one; in RESET and RESET_ACK the low four bits are not 0. Otherwise by its kind:
+ * A packet arrived. HASFANDUR_DLC_BAD_PACKET in every state: it is empty, of no kind below, over HASFANDUR_DLC_MAX_PACKET
+ * octets, or not DATA and longer than one; in RESET and RESET_ACK the low four bits are not 0. Otherwise by its kind:
  *
  * RESET (10), in every state: queue emptied, numbers 0, the upper layer told to reset, RESET_ACK sent, to
  * HASFANDUR_DLC_STATE_DATA.
