@@ -97,83 +97,6 @@ enum hasfandur_number {
 #define HASFANDUR_DLC_PACKET_SIZE(n) ((n) + 1)
 #define HASFANDUR_AFP_FRAME_SIZE(stations, supplementary, data) (6 + (stations) + (supplementary) + (data) + 2)
 
-/* The name of a number given back, for logs: what stands behind HASFANDUR_. */
-/* begin names: written by include/numbers */
-static inline const char *hasfandur_number_name(uint8_t number)
-{
-    switch (number) {
-    case HASFANDUR_DONE:
-        return "DONE";
-    case HASFANDUR_QAFT_NO_DATA:
-        return "QAFT_NO_DATA";
-    case HASFANDUR_QAFT_DATA_TOO_LONG:
-        return "QAFT_DATA_TOO_LONG";
-    case HASFANDUR_QAFT_OUT_TOO_SMALL:
-        return "QAFT_OUT_TOO_SMALL";
-    case HASFANDUR_QAFT_BUFFER_TOO_SMALL:
-        return "QAFT_BUFFER_TOO_SMALL";
-    case HASFANDUR_QAFT_BAD_STATE:
-        return "QAFT_BAD_STATE";
-    case HASFANDUR_QAFT_BAD_LEVEL:
-        return "QAFT_BAD_LEVEL";
-    case HASFANDUR_QAFT_FRAME:
-        return "QAFT_FRAME";
-    case HASFANDUR_QAFT_ABORTED:
-        return "QAFT_ABORTED";
-    case HASFANDUR_QAFT_LONG:
-        return "QAFT_LONG";
-    case HASFANDUR_QAFT_SHORT:
-        return "QAFT_SHORT";
-    case HASFANDUR_QAFT_BAD_CHECK:
-        return "QAFT_BAD_CHECK";
-    case HASFANDUR_QAFT_USED_UP:
-        return "QAFT_USED_UP";
-    case HASFANDUR_DLC_NOT_OPEN:
-        return "DLC_NOT_OPEN";
-    case HASFANDUR_DLC_PAYLOAD_TOO_LONG:
-        return "DLC_PAYLOAD_TOO_LONG";
-    case HASFANDUR_DLC_QUEUE_FULL:
-        return "DLC_QUEUE_FULL";
-    case HASFANDUR_DLC_BAD_PACKET:
-        return "DLC_BAD_PACKET";
-    case HASFANDUR_DLC_NO_ENTRY:
-        return "DLC_NO_ENTRY";
-    case HASFANDUR_DLC_OTHER_NUMBER:
-        return "DLC_OTHER_NUMBER";
-    case HASFANDUR_DLC_REPLY_TOO_SMALL:
-        return "DLC_REPLY_TOO_SMALL";
-    case HASFANDUR_DLC_BAD_LINK:
-        return "DLC_BAD_LINK";
-    case HASFANDUR_AFP_BAD_LENGTH:
-        return "AFP_BAD_LENGTH";
-    case HASFANDUR_AFP_BAD_CHECK:
-        return "AFP_BAD_CHECK";
-    case HASFANDUR_AFP_BAD_VERSION:
-        return "AFP_BAD_VERSION";
-    case HASFANDUR_AFP_BAD_PROTOCOL:
-        return "AFP_BAD_PROTOCOL";
-    case HASFANDUR_AFP_BAD_OFFSET:
-        return "AFP_BAD_OFFSET";
-    case HASFANDUR_AFP_BAD_STATIONS:
-        return "AFP_BAD_STATIONS";
-    case HASFANDUR_AFP_BAD_NEXT:
-        return "AFP_BAD_NEXT";
-    case HASFANDUR_AFP_BAD_NEXT_SUM:
-        return "AFP_BAD_NEXT_SUM";
-    case HASFANDUR_AFP_BAD_SUPPLEMENTARY:
-        return "AFP_BAD_SUPPLEMENTARY";
-    case HASFANDUR_AFP_BAD_HEADER_SUM:
-        return "AFP_BAD_HEADER_SUM";
-    case HASFANDUR_AFP_BAD_DATA:
-        return "AFP_BAD_DATA";
-    case HASFANDUR_AFP_OUT_TOO_SMALL:
-        return "AFP_OUT_TOO_SMALL";
-    default:
-        return "no number of hasfandur";
-    }
-}
-/* end names */
-
 /* A writer's answer: a number, and how many octets stand at the front of the out buffer (0 on a refusal). */
 typedef struct hasfandur_written {
     uint8_t number;
@@ -409,6 +332,83 @@ typedef hasfandur_written hasfandur_afp_written;
 hasfandur_afp_written hasfandur_afp_write(uint8_t protocol, const uint8_t *stations, size_t stations_length, size_t next,
                                           const uint8_t *supplementary, size_t supplementary_length, const uint8_t *data,
                                           size_t data_length, uint8_t *out, size_t out_length);
+
+/* The name of a number given back, for logs: what stands behind HASFANDUR_. */
+/* begin names: written by include/numbers */
+static inline const char *hasfandur_number_name(uint8_t number)
+{
+    switch (number) {
+    case HASFANDUR_DONE:
+        return "DONE";
+    case HASFANDUR_QAFT_NO_DATA:
+        return "QAFT_NO_DATA";
+    case HASFANDUR_QAFT_DATA_TOO_LONG:
+        return "QAFT_DATA_TOO_LONG";
+    case HASFANDUR_QAFT_OUT_TOO_SMALL:
+        return "QAFT_OUT_TOO_SMALL";
+    case HASFANDUR_QAFT_BUFFER_TOO_SMALL:
+        return "QAFT_BUFFER_TOO_SMALL";
+    case HASFANDUR_QAFT_BAD_STATE:
+        return "QAFT_BAD_STATE";
+    case HASFANDUR_QAFT_BAD_LEVEL:
+        return "QAFT_BAD_LEVEL";
+    case HASFANDUR_QAFT_FRAME:
+        return "QAFT_FRAME";
+    case HASFANDUR_QAFT_ABORTED:
+        return "QAFT_ABORTED";
+    case HASFANDUR_QAFT_LONG:
+        return "QAFT_LONG";
+    case HASFANDUR_QAFT_SHORT:
+        return "QAFT_SHORT";
+    case HASFANDUR_QAFT_BAD_CHECK:
+        return "QAFT_BAD_CHECK";
+    case HASFANDUR_QAFT_USED_UP:
+        return "QAFT_USED_UP";
+    case HASFANDUR_DLC_NOT_OPEN:
+        return "DLC_NOT_OPEN";
+    case HASFANDUR_DLC_PAYLOAD_TOO_LONG:
+        return "DLC_PAYLOAD_TOO_LONG";
+    case HASFANDUR_DLC_QUEUE_FULL:
+        return "DLC_QUEUE_FULL";
+    case HASFANDUR_DLC_BAD_PACKET:
+        return "DLC_BAD_PACKET";
+    case HASFANDUR_DLC_NO_ENTRY:
+        return "DLC_NO_ENTRY";
+    case HASFANDUR_DLC_OTHER_NUMBER:
+        return "DLC_OTHER_NUMBER";
+    case HASFANDUR_DLC_REPLY_TOO_SMALL:
+        return "DLC_REPLY_TOO_SMALL";
+    case HASFANDUR_DLC_BAD_LINK:
+        return "DLC_BAD_LINK";
+    case HASFANDUR_AFP_BAD_LENGTH:
+        return "AFP_BAD_LENGTH";
+    case HASFANDUR_AFP_BAD_CHECK:
+        return "AFP_BAD_CHECK";
+    case HASFANDUR_AFP_BAD_VERSION:
+        return "AFP_BAD_VERSION";
+    case HASFANDUR_AFP_BAD_PROTOCOL:
+        return "AFP_BAD_PROTOCOL";
+    case HASFANDUR_AFP_BAD_OFFSET:
+        return "AFP_BAD_OFFSET";
+    case HASFANDUR_AFP_BAD_STATIONS:
+        return "AFP_BAD_STATIONS";
+    case HASFANDUR_AFP_BAD_NEXT:
+        return "AFP_BAD_NEXT";
+    case HASFANDUR_AFP_BAD_NEXT_SUM:
+        return "AFP_BAD_NEXT_SUM";
+    case HASFANDUR_AFP_BAD_SUPPLEMENTARY:
+        return "AFP_BAD_SUPPLEMENTARY";
+    case HASFANDUR_AFP_BAD_HEADER_SUM:
+        return "AFP_BAD_HEADER_SUM";
+    case HASFANDUR_AFP_BAD_DATA:
+        return "AFP_BAD_DATA";
+    case HASFANDUR_AFP_OUT_TOO_SMALL:
+        return "AFP_OUT_TOO_SMALL";
+    default:
+        return "no number of hasfandur";
+    }
+}
+/* end names */
 
 #ifdef __cplusplus
 }
