@@ -1,1 +1,2 @@
 pub mod Conversions
+pub mod Lines

@@ -2,12 +2,17 @@
 --
 --   readerOf c, plainOf r     the state that numbers say, and the numbers of a state
 --   answerOf c a              the answer a to a call with the state c, in plain numbers
+--   plainScan c xs m          a call as the generic caller of the crate line sees it
 use Prim.Native.Nat.{ℕ}
 use mathlib.Core.Bool.{Bool, true, false, not}
+use mathlib.Core.List.{List}
 use lib.Dec.{eqb}
+use Rattle.line.specs.Scan.{Scan}
 use Rattle.qaft_report.specs.Answer.{number, dataLength}
 use Rattle.qaft_report.specs.declared.Outcome.{Outcome}
 use Rattle.qaft_report.specs.declared.Outcome.the-variants.{Refused, Reported, UsedUp}
+use Rattle.qaft_report.specs.declared.Report.{Report}
+use Rattle.qaft_read.specs.Read.{read, reportOf}
 use Rattle.qaft_read.specs.declared.Answer.{Answer}
 use Rattle.qaft_read.specs.declared.Reader.{Reader}
 use Rattle.qaft_plain.specs.declared.PlainReader.{PlainReader}
@@ -41,4 +46,15 @@ answerOf c a =
       taken = a .taken;
       length = dataLength (a .outcome);
       reader = later c (a .outcome) (a .reader);
+    }
+
+-- a call with the chunk xs and the buffer m; a refusal reports nothing
+unfoldable pub plainScan : PlainReader → (xs m : List ℕ) → Scan PlainReader Report
+plainScan c xs m =
+    let k = read (readerOf c) xs m in
+    record {
+      report = reportOf (k .answer .outcome);
+      taken = k .answer .taken;
+      state = answerOf c (k .answer) .reader;
+      buffer = k .buffer;
     }
