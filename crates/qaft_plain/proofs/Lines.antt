@@ -7,9 +7,7 @@ use mathlib.Core.Path.{_≡_, refl, sym, ap, _∙_}
 use lib.ListN.{length, drop}
 use Rattle.line.specs.Scan.{Scan}
 use Rattle.line.specs.Trace.{Trace, noEvent, oneEvent, andThen, reported, readChunk, readChunks}
-use Rattle.qaft_report.specs.declared.Report.{Report}
 use Rattle.qaft_read.specs.Read.{readScan}
-use Rattle.qaft_read.specs.declared.Reader.{Reader}
 use Rattle.qaft_plain.specs.Plain.{readerOf, plainScan}
 use Rattle.qaft_plain.specs.declared.PlainReader.{PlainReader}
 use Rattle.qaft_plain.proofs.Conversions.{goes-on}
