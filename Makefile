@@ -1,11 +1,11 @@
 # The library for C programs: make, make install [PREFIX=..] [DESTDIR=..], make uninstall, make check (the gate).
 # The archive is built, and so proved, where a file of the crates is newer than it; that needs the Rattle toolchain (rt).
-VERSION = 0.1.0
+VERSION = 0.2.0
 PREFIX = /usr/local
 INCLUDEDIR = $(PREFIX)/include
 LIBDIR = $(PREFIX)/lib
 
-ARCHIVE = target/staticlib/libdesk.a
+ARCHIVE = target/staticlib/libhasfandur.a
 SOURCES = crates.txt $(shell find crates -name '*.rt' -o -name '*.antt')
 
 HEADER_AT = $(DESTDIR)$(INCLUDEDIR)/hasfandur.h
@@ -15,7 +15,7 @@ PC_AT = $(DESTDIR)$(LIBDIR)/pkgconfig/hasfandur.pc
 all: $(ARCHIVE)
 
 $(ARCHIVE): $(SOURCES)
-	rt staticlib desk
+	rt staticlib hasfandur
 	touch $@
 
 install: $(ARCHIVE)

@@ -9,7 +9,7 @@ fn main() {
     );
     println!(
         "cargo:rerun-if-changed={}",
-        target.join("staticlib/libdesk.a").display()
+        target.join("staticlib/libhasfandur.a").display()
     );
     let built = target.join("bench/c");
     println!("cargo:rerun-if-changed={}", built.display());

@@ -55,6 +55,12 @@ static void write_cases(void)
     write_case("level 255, 2561 octets", 255, false, big, HASFANDUR_QAFT_MAX_DATA + 1, HASFANDUR_QAFT_MAX_FRAME);
     write_case("no data, no room", 0, false, a, 0, 0);
     write_case("2561 octets, no room", 0, false, big, HASFANDUR_QAFT_MAX_DATA + 1, 0);
+
+    /* a frame whose octets are all escaped, the check octet 7E too, fills the size that the header says */
+    memset(big, 0x7D, sizeof big);
+    memset(big, 0x7E, 136);
+    write_case("258 octets in their size", 0, false, big, 258, HASFANDUR_QAFT_FRAME_SIZE(258));
+    write_case("258 octets in one less", 0, false, big, 258, HASFANDUR_QAFT_FRAME_SIZE(258) - 1);
 }
 
 static void check_cases(void)
@@ -71,7 +77,7 @@ static void print_answer(hasfandur_qaft_answer a, const uint8_t *buffer)
 {
     printf("  %u, took %zu, state %d %d %zu %02X", (unsigned)a.number, a.taken, a.reader.synced, a.reader.pending,
            a.reader.count, a.reader.sum);
-    if (a.number == HASFANDUR_FRAME) {
+    if (a.number == HASFANDUR_QAFT_FRAME) {
         printf(", data");
         print_octets(buffer, a.length);
     }
@@ -81,7 +87,7 @@ static void print_answer(hasfandur_qaft_answer a, const uint8_t *buffer)
 /* Reads a line in two chunks, handing on the rest of each after a report. */
 static void read_case(const char *name, uint8_t level, const uint8_t *line, size_t cut, size_t length)
 {
-    static uint8_t buffer[HASFANDUR_QAFT_BUFFER];
+    static uint8_t buffer[HASFANDUR_QAFT_MAX_SEGMENT];
     const size_t ends[] = {cut, length};
     hasfandur_qaft_reader state = hasfandur_qaft_fresh(level);
     size_t at = 0;
@@ -93,7 +99,7 @@ static void read_case(const char *name, uint8_t level, const uint8_t *line, size
             state = a.reader;
             at += a.taken;
             print_answer(a, buffer);
-        } while (HASFANDUR_FRAME <= a.number && a.number <= HASFANDUR_BAD_CHECK);
+        } while (HASFANDUR_QAFT_FRAME <= a.number && a.number <= HASFANDUR_QAFT_BAD_CHECK);
     }
 }
 
@@ -102,13 +108,13 @@ static void read_cases(void)
     /* the paper's example, cut behind a 7D */
     static const uint8_t line[] = {0xAA, 0x7E, 0x40, 0x41, 0x7F, 0x7E, 0x10, 0x7D, 0x7E, 0x7E, 0x05, 0x7E, 0x33};
     static const uint8_t pair[] = {0x7E, 0x7D, 0x5E, 0x82, 0x7E, 0x41, 0xBE, 0x7E};
-    static uint8_t buffer[HASFANDUR_QAFT_BUFFER];
+    static uint8_t buffer[HASFANDUR_QAFT_MAX_SEGMENT];
     read_case("read the paper's line", 0, line, 8, sizeof line);
     read_case("read 7D 5E 82, cut behind 7D", 1, pair, 2, sizeof pair);
 
     /* refusals 6, 4, 5, in this order */
     printf("read refused\n");
-    hasfandur_qaft_reader bad = {2, false, true, 3, 7};
+    hasfandur_qaft_reader bad = {2, 0, 1, 3, 7};
     print_answer(hasfandur_qaft_read(bad, line, sizeof line, buffer, 2560), buffer);
     bad.level = 1;
     print_answer(hasfandur_qaft_read(bad, line, sizeof line, buffer, 2560), buffer);
@@ -181,12 +187,54 @@ static void afp_cases(void)
     print_reading("afp no frame", nothing, hasfandur_afp_read(nothing, 0));
 }
 
+/* No octets, and no place for them. */
+static void null_cases(void)
+{
+    static const uint8_t stations[] = {4, 'A', 'B', '1', 'C', 0};
+    static uint8_t buffer[HASFANDUR_QAFT_MAX_SEGMENT], out[64];
+    const hasfandur_qaft_reader fresh = hasfandur_qaft_fresh(0);
+    printf("null\n");
+    printf("  check %02X, sums %02X %02X %02X, check sequence %04X\n", hasfandur_qaft_check(NULL, 0), hasfandur_afp_sum(NULL, 0),
+           hasfandur_afp_next_station_sum(NULL, 0), hasfandur_afp_header_sum(NULL, 0),
+           (unsigned)hasfandur_check_sequence(NULL, 0));
+    print_answer(hasfandur_qaft_read(fresh, NULL, 0, NULL, 0), buffer);
+    print_answer(hasfandur_qaft_read(fresh, NULL, 0, buffer, sizeof buffer), buffer);
+    printf("  write %u, %u\n", hasfandur_qaft_write(0, false, NULL, 0, NULL, 0).number,
+           hasfandur_qaft_write(0, false, out, 1, NULL, 0).number);
+    printf("  afp write %u, %u, %u\n", hasfandur_afp_write(0xF0, NULL, 0, 0, NULL, 0, NULL, 0, NULL, 0).number,
+           hasfandur_afp_write(0xF0, stations, sizeof stations, 0, NULL, 0, NULL, 0, NULL, 0).number,
+           hasfandur_afp_write(0xF0, stations, sizeof stations, 0, NULL, 0, NULL, 0, out, sizeof out).number);
+    printf("  afp read %u\n", hasfandur_afp_read(NULL, 0).number);
+}
+
+/* Any number but 0 in the state's bools stands for true, and is given back so only where the call is refused. */
+static void number_cases(void)
+{
+    static const uint8_t line[] = {0x5E, 0x82, 0x7E};
+    static uint8_t buffer[HASFANDUR_QAFT_MAX_SEGMENT];
+    const hasfandur_qaft_reader waiting = {0, 3, 128, 0, 0}, nowhere = {0, 0, 255, 0, 0};
+    printf("state 3 128, then 0 255\n");
+    print_answer(hasfandur_qaft_read(waiting, line, sizeof line, buffer, sizeof buffer), buffer);
+    print_answer(hasfandur_qaft_read(nowhere, line, sizeof line, buffer, sizeof buffer), buffer);
+}
+
+static void name_cases(void)
+{
+    printf("version %s, %d\n", HASFANDUR_VERSION, HASFANDUR_VERSION_NUMBER);
+    for (unsigned n = 0; n <= 42; n++) {
+        printf("%u %s\n", n, hasfandur_number_name((uint8_t)n));
+    }
+}
+
 int main(void)
 {
     write_cases();
     check_cases();
     read_cases();
+    number_cases();
     sum_cases();
     afp_cases();
+    null_cases();
+    name_cases();
     return 0;
 }

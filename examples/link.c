@@ -20,7 +20,7 @@ static void print_link(const hasfandur_dlc_link *link)
 {
     static const char *const states[] = {"DLIDLE", "DLRESET", "DLDATA", "DLDWAIT"};
     const size_t shown = link->queue.count <= HASFANDUR_DLC_SLOTS ? link->queue.count : 0;
-    printf("%s, %zu queued", link->state <= HASFANDUR_DLC_WAIT ? states[link->state] : "no state", link->queue.count);
+    printf("%s, %zu queued", link->state <= HASFANDUR_DLC_STATE_WAIT ? states[link->state] : "no state", link->queue.count);
     for (size_t i = 0; i < shown; i++) {
         printf(" (%zu)", link->queue.slots[i].length);
     }
@@ -130,9 +130,9 @@ static void limits(end *e)
 /* Worked on paper: with numbers 14 and 15 queued DACK 1 is refused, and DACK 0 empties the queue. */
 static void restart(void)
 {
-    static const uint8_t dack_1[] = {0x51}, dack_0[] = {0x50}, data_15[] = {0x4F};
+    static const uint8_t dack_1[] = {HASFANDUR_DLC_DACK + 1}, dack_0[] = {HASFANDUR_DLC_DACK}, data_15[] = {HASFANDUR_DLC_DATA + 15};
     end e = fresh("14 and 15 queued");
-    e.link.state = HASFANDUR_DLC_WAIT;
+    e.link.state = HASFANDUR_DLC_STATE_WAIT;
     e.link.queue.count = 2;
     e.link.queue.slots[0].length = 1;
     e.link.queue.slots[1].length = 1;
@@ -151,9 +151,9 @@ static void refusals(void)
     const size_t small = HASFANDUR_DLC_REPLY - 1;
     end e = fresh("refused");
     memset(e.reply, UNTOUCHED, sizeof e.reply);
-    e.link.state = HASFANDUR_DLC_WAIT + 1;
+    e.link.state = HASFANDUR_DLC_STATE_WAIT + 1;
     take(&e, "start", hasfandur_dlc_start(e.link, e.reply, small));
-    e.link.state = HASFANDUR_DLC_WAIT;
+    e.link.state = HASFANDUR_DLC_STATE_WAIT;
     take(&e, "timer", hasfandur_dlc_timer(e.link, e.reply, small));
     e.link = hasfandur_dlc_fresh();
     e.link.queue.count = HASFANDUR_DLC_SLOTS + 1;
@@ -173,6 +173,20 @@ static void refusals(void)
     timer(&e);
 }
 
+/* A zeroed link is a fresh one; no octets may have no place. */
+static void zeroed(void)
+{
+    static const uint8_t reset[] = {HASFANDUR_DLC_RESET};
+    end e = fresh("zeroed");
+    memset(&e.link, 0, sizeof e.link);
+    arrival(&e, NULL, 0);
+    start(&e);
+    timer(&e);
+    arrival(&e, reset, sizeof reset);
+    payload(&e, NULL, 0);
+    take(&e, "timer", hasfandur_dlc_timer(e.link, NULL, 0));
+}
+
 int main(void)
 {
     end here = fresh("here"), there = fresh("there");
@@ -181,5 +195,6 @@ int main(void)
     limits(&here);
     restart();
     refusals();
+    zeroed();
     return 0;
 }

@@ -1,12 +1,13 @@
 /*
  * Hasfandur: proved link software for C.
  *
- * `make install` puts it where `pkg-config hasfandur` finds it; or link with target/staticlib/libdesk.a (`rt staticlib
- * desk`). No other library and no flag is needed. docs/C.md has a short example of each call.
- * Each function below is proved to do what its comment says, for every argument that a C program can pass as the comment
- * says: a pointer to `length` octets that are the caller's, and that no other argument overlaps where they are written.
+ * `make install` puts it where `pkg-config hasfandur` finds it; or link with libhasfandur.a. No other library and no flag is
+ * needed. docs/C.md has a short example of each call.
+ * Each function is proved to meet its contract in crates/hasfandur, for every argument that a C program can pass as its comment
+ * says: a pointer to `length` octets that are the caller's, and that no other argument overlaps where they are written. That
+ * this header says of them what is proved is compared and tested (numbers, types, every call), not proved.
  * No function allocates, keeps a pointer, or fails: what it can't do it refuses by a number, and a refusal writes nothing.
- * A pointer with length 0 is not read; it must still not be null.
+ * A pointer with length 0 is not read, and may be null.
  */
 #ifndef HASFANDUR_H
 #define HASFANDUR_H
@@ -19,70 +20,82 @@
 extern "C" {
 #endif
 
-/* The numbers given back. */
+/* The version, and the same as one number to compare: 10000 for the first part, 100 for the second. */
+/* begin version: written by include/numbers */
+#define HASFANDUR_VERSION "0.2.0"
+#define HASFANDUR_VERSION_NUMBER 200
+/* end version */
+
+/* On calls that give a state or a link back: who drops it goes on with the old one. */
+#if defined(__GNUC__)
+#define HASFANDUR_MUST_USE __attribute__((warn_unused_result))
+#else
+#define HASFANDUR_MUST_USE
+#endif
+
+/* The numbers given back. Where several refusals apply the first is given: QAFT writer 6, 1, 2, 3; QAFT reader 6, 4, 5; link
+ * 27, 26, 23, 21, 20, 22, 24; AFP reader 30 upward; AFP writer 33, 35, 36, 38, 34, 40, 41. */
+/* begin numbers: written by include/numbers */
 enum hasfandur_number {
-    HASFANDUR_DONE = 0,
-    /* QAFT writer */
-    HASFANDUR_NO_DATA = 1,
-    HASFANDUR_DATA_TOO_LONG = 2,
-    HASFANDUR_OUT_TOO_SMALL = 3,
-    /* QAFT writer and reader */
-    HASFANDUR_BAD_LEVEL = 6,
-    /* QAFT reader: refusals, */
-    HASFANDUR_BUFFER_TOO_SMALL = 4,
-    HASFANDUR_BAD_STATE = 5,
-    /* reports, and a chunk used up without a report */
-    HASFANDUR_FRAME = 10,
-    HASFANDUR_ABORTED = 11,
-    HASFANDUR_LONG = 12,
-    HASFANDUR_SHORT = 13,
-    HASFANDUR_BAD_CHECK = 14,
-    HASFANDUR_USED_UP = 15,
-    /* DLC link: refusals (their order: 27, 26, 23, 21, 20, 22, 24), */
-    HASFANDUR_DLC_NOT_OPEN = 20,
-    HASFANDUR_DLC_PAYLOAD_TOO_LONG = 21,
-    HASFANDUR_DLC_QUEUE_FULL = 22,
-    HASFANDUR_DLC_BAD_PACKET = 23,
-    HASFANDUR_DLC_NO_ENTRY = 24,
-    /* no refusal: DATA with another number than the expected one, answered by a DACK, */
-    HASFANDUR_DLC_OTHER_NUMBER = 25,
-    /* and two more refusals */
-    HASFANDUR_DLC_REPLY_TOO_SMALL = 26,
-    HASFANDUR_DLC_BAD_LINK = 27,
-    /* AFP reader, in this order; the writer gives 33, 35, 36, 38, 34, 40, 41 */
-    HASFANDUR_AFP_BAD_LENGTH = 30,
-    HASFANDUR_AFP_BAD_CHECK = 31,
-    HASFANDUR_AFP_BAD_VERSION = 32,
-    HASFANDUR_AFP_BAD_PROTOCOL = 33,
-    HASFANDUR_AFP_BAD_OFFSET = 34,
-    HASFANDUR_AFP_BAD_STATIONS = 35,
-    HASFANDUR_AFP_BAD_NEXT = 36,
-    HASFANDUR_AFP_BAD_NEXT_SUM = 37,
-    HASFANDUR_AFP_BAD_SUPPLEMENTARY = 38,
-    HASFANDUR_AFP_BAD_HEADER_SUM = 39,
-    HASFANDUR_AFP_BAD_DATA = 40,
-    HASFANDUR_AFP_OUT_TOO_SMALL = 41
+    HASFANDUR_DONE = 0, /* done */
+    HASFANDUR_QAFT_NO_DATA = 1, /* QAFT writer: no data */
+    HASFANDUR_QAFT_DATA_TOO_LONG = 2, /* QAFT writer: over 2,560 data octets */
+    HASFANDUR_QAFT_OUT_TOO_SMALL = 3, /* QAFT writer: `out` is shorter than this very frame */
+    HASFANDUR_QAFT_BUFFER_TOO_SMALL = 4, /* QAFT reader: `buffer` is under 2,561 octets */
+    HASFANDUR_QAFT_BAD_STATE = 5, /* QAFT reader: a state that no line leads to */
+    HASFANDUR_QAFT_BAD_LEVEL = 6, /* QAFT writer and reader: level not 0 or 1 */
+    HASFANDUR_QAFT_FRAME = 10, /* QAFT reader's report, no refusal: a frame */
+    HASFANDUR_QAFT_ABORTED = 11, /* QAFT reader's report, no refusal: a 7D stands before the flag */
+    HASFANDUR_QAFT_LONG = 12, /* QAFT reader's report, no refusal: over 2,561 octets */
+    HASFANDUR_QAFT_SHORT = 13, /* QAFT reader's report, no refusal: a single octet */
+    HASFANDUR_QAFT_BAD_CHECK = 14, /* QAFT reader's report, no refusal: the sum is not 0 */
+    HASFANDUR_QAFT_USED_UP = 15, /* QAFT reader, no refusal: the chunk is used up without a report */
+    HASFANDUR_DLC_NOT_OPEN = 20, /* DLC payload: the link is not open */
+    HASFANDUR_DLC_PAYLOAD_TOO_LONG = 21, /* DLC payload: over 256 octets */
+    HASFANDUR_DLC_QUEUE_FULL = 22, /* DLC payload: the queue is full */
+    HASFANDUR_DLC_BAD_PACKET = 23, /* DLC arrival: what arrived is no packet */
+    HASFANDUR_DLC_NO_ENTRY = 24, /* DLC every event: no entry in this state, or a DACK of none or of more than are queued */
+    HASFANDUR_DLC_OTHER_NUMBER = 25, /* DLC arrival, no refusal: DATA with another number than the expected one; a DACK is sent */
+    HASFANDUR_DLC_REPLY_TOO_SMALL = 26, /* DLC every event: `reply` is under 1,799 octets */
+    HASFANDUR_DLC_BAD_LINK = 27, /* DLC every event: the link is not well formed */
+    HASFANDUR_AFP_BAD_LENGTH = 30, /* AFP reader: frame not of 14 to 2,560 octets */
+    HASFANDUR_AFP_BAD_CHECK = 31, /* AFP reader: check sequence */
+    HASFANDUR_AFP_BAD_VERSION = 32, /* AFP reader: version not 1 */
+    HASFANDUR_AFP_BAD_PROTOCOL = 33, /* AFP reader and writer: protocol FE or FF */
+    HASFANDUR_AFP_BAD_OFFSET = 34, /* AFP reader and writer: header not of 12 to 254 octets, or longer than the frame */
+    HASFANDUR_AFP_BAD_STATIONS = 35, /* AFP reader and writer: station fields */
+    HASFANDUR_AFP_BAD_NEXT = 36, /* AFP reader and writer: next station */
+    HASFANDUR_AFP_BAD_NEXT_SUM = 37, /* AFP reader: sum of the next station's field */
+    HASFANDUR_AFP_BAD_SUPPLEMENTARY = 38, /* AFP reader and writer: supplementary header */
+    HASFANDUR_AFP_BAD_HEADER_SUM = 39, /* AFP reader: header sum */
+    HASFANDUR_AFP_BAD_DATA = 40, /* AFP reader and writer: over 2,304 data octets */
+    HASFANDUR_AFP_OUT_TOO_SMALL = 41 /* AFP writer: `out` is shorter than this very frame */
 };
+/* end numbers */
 
-/* A QAFT frame has 1 to this many data octets. */
-#define HASFANDUR_QAFT_MAX_DATA 2560
-/* An out buffer of this size has room for every frame. */
-#define HASFANDUR_QAFT_MAX_FRAME 5124
+/* Sizes, in octets but for the slots. */
+/* begin sizes: written by include/numbers */
+#define HASFANDUR_QAFT_MAX_DATA 2560 /* data of a QAFT frame, at least 1 */
+#define HASFANDUR_QAFT_MAX_SEGMENT 2561 /* the QAFT reader's `buffer`, at least: data and check of the longest frame */
+#define HASFANDUR_QAFT_MAX_FRAME 5124 /* an `out` that has room for every QAFT frame */
+#define HASFANDUR_DLC_MAX_PAYLOAD 256 /* a DLC payload, which may be empty */
+#define HASFANDUR_DLC_MAX_PACKET 257 /* a DLC packet */
+#define HASFANDUR_DLC_SLOTS 7 /* payloads that a link's queue holds */
+#define HASFANDUR_DLC_REPLY 1799 /* the link's `reply`, at least: a whole queue of the longest packets */
+#define HASFANDUR_AFP_MIN_FRAME 14 /* the shortest AFP frame */
+#define HASFANDUR_AFP_MAX_FRAME 2560 /* the longest; an `out` that has room for every AFP frame */
+#define HASFANDUR_AFP_MIN_HEADER 12 /* the shortest AFP header */
+#define HASFANDUR_AFP_MAX_HEADER 254 /* the longest */
+#define HASFANDUR_AFP_MAX_DATA 2304 /* data of an AFP frame, which may be none */
+/* end sizes */
 
-/* The QAFT reader's buffer has at least this many octets: data and check of the longest frame. */
-#define HASFANDUR_QAFT_BUFFER 2561
-
-/* A DLC payload has 0 to this many octets, a packet one more; a link's queue holds up to this many payloads; the reply
- * buffer has at least this many octets: a whole queue of the longest packets. */
-#define HASFANDUR_DLC_MAX_PAYLOAD 256
-#define HASFANDUR_DLC_MAX_PACKET 257
-#define HASFANDUR_DLC_SLOTS 7
-#define HASFANDUR_DLC_REPLY 1799
-
-/* An AFP frame has 14 to this many octets, of them up to 2,304 data octets and a header of 12 to 254. */
-#define HASFANDUR_AFP_MAX_FRAME 2560
-#define HASFANDUR_AFP_MAX_DATA 2304
-#define HASFANDUR_AFP_MAX_HEADER 254
+/* An `out` of this size has room for the QAFT frame of n data octets, whatever they are; one for a DLC packet in a QAFT frame;
+ * the size of the DLC packet of n payload octets; and of the AFP frame of so many octets of stations, supplementary header and
+ * data, which is its very length. */
+#define HASFANDUR_QAFT_FRAME_SIZE(n) (2 * ((n) + 1) + 2)
+#define HASFANDUR_QAFT_PACKET_FRAME HASFANDUR_QAFT_FRAME_SIZE(HASFANDUR_DLC_MAX_PACKET)
+#define HASFANDUR_DLC_PACKET_SIZE(n) ((n) + 1)
+#define HASFANDUR_AFP_FRAME_SIZE(stations, supplementary, data) (6 + (stations) + (supplementary) + (data) + 2)
 
 /* A writer's answer: a number, and how many octets stand at the front of the out buffer (0 on a refusal). */
 typedef struct hasfandur_written {
@@ -100,27 +113,28 @@ uint8_t hasfandur_qaft_check(const uint8_t *octets, size_t length);
  * Writes one QAFT frame to the front of `out`: a flag (unless `at_flag` says that the line stands at one), data and check
  * octet with their escapes, a flag. Level 0 escapes 7E and 7D, level 1 also 11 and 13.
  *
- * Refusals, the first that applies: HASFANDUR_BAD_LEVEL (level over 1), HASFANDUR_NO_DATA, HASFANDUR_DATA_TOO_LONG,
- * HASFANDUR_OUT_TOO_SMALL (by the length of this very frame). A refusal writes nothing. Otherwise HASFANDUR_DONE, with the
- * frame's length; octets of `out` behind the frame are as before.
+ * Refusals, the first that applies: HASFANDUR_QAFT_BAD_LEVEL (level over 1), _NO_DATA, _DATA_TOO_LONG, _OUT_TOO_SMALL (by the
+ * length of this very frame). A refusal writes nothing. Otherwise HASFANDUR_DONE, with the frame's length; octets of `out`
+ * behind the frame are as before.
  */
 hasfandur_written hasfandur_qaft_write(uint8_t level, bool at_flag, const uint8_t *data, size_t data_length, uint8_t *out,
                                        size_t out_length);
 
 /*
  * The QAFT reader's state, which goes from call to call by value: level; whether a flag has come; whether a 7D waits for
- * its partner; octets of the segment so far, escapes undone, 2,562 for all above; their sum modulo 256.
+ * its partner; octets of the segment so far, escapes undone, 2,562 for all above; their sum modulo 256. In `synced` and
+ * `pending` any number but 0 stands for true; a call that is not refused gives 0 or 1 back.
  */
 typedef struct hasfandur_qaft_reader {
     uint8_t level;
-    bool synced;
-    bool pending;
+    uint8_t synced;
+    uint8_t pending;
     size_t count;
     uint8_t sum;
 } hasfandur_qaft_reader;
 
 /* The reader's answer: report or refusal; octets of the chunk taken; data octets at the front of the buffer (0 unless the
- * report is HASFANDUR_FRAME); the state for the next call. */
+ * report is HASFANDUR_QAFT_FRAME); the state for the next call. */
 typedef struct hasfandur_qaft_answer {
     uint8_t number;
     size_t taken;
@@ -129,26 +143,38 @@ typedef struct hasfandur_qaft_answer {
 } hasfandur_qaft_answer;
 
 /* The state before any flag. */
-hasfandur_qaft_reader hasfandur_qaft_fresh(uint8_t level);
+HASFANDUR_MUST_USE hasfandur_qaft_reader hasfandur_qaft_fresh(uint8_t level);
 
 /*
  * Reads a chunk of a line up to its first report. Hand the rest of the chunk, from `taken` on, to the next call, with the
- * state that came back and the same buffer; after HASFANDUR_USED_UP go on with the next chunk. Octets are stored in the
+ * state that came back and the same buffer; after HASFANDUR_QAFT_USED_UP go on with the next chunk. Octets are stored in the
  * buffer as they come, escapes undone; the reader judges by its state alone.
  *
- * Refusals, the first that applies: HASFANDUR_BAD_LEVEL, HASFANDUR_BUFFER_TOO_SMALL (under HASFANDUR_QAFT_BUFFER octets),
- * HASFANDUR_BAD_STATE (a state that no line leads to). A refusal takes nothing, writes nothing, and gives the state back.
+ * Refusals, the first that applies: HASFANDUR_QAFT_BAD_LEVEL, _BUFFER_TOO_SMALL (under HASFANDUR_QAFT_MAX_SEGMENT octets),
+ * _BAD_STATE (a state that no line leads to). A refusal takes nothing, writes nothing, and gives the very state back that came.
  */
-hasfandur_qaft_answer hasfandur_qaft_read(hasfandur_qaft_reader reader, const uint8_t *chunk, size_t chunk_length,
-                                          uint8_t *buffer, size_t buffer_length);
+HASFANDUR_MUST_USE hasfandur_qaft_answer hasfandur_qaft_read(hasfandur_qaft_reader reader, const uint8_t *chunk,
+                                                             size_t chunk_length, uint8_t *buffer, size_t buffer_length);
 
-/* A DLC link's states: DLIDLE, DLRESET, DLDATA, DLDWAIT. */
+/* A DLC link's states. */
+/* begin states: written by include/numbers */
 enum hasfandur_dlc_state {
-    HASFANDUR_DLC_IDLE = 0,
-    HASFANDUR_DLC_RESET = 1,
-    HASFANDUR_DLC_DATA = 2,
-    HASFANDUR_DLC_WAIT = 3
+    HASFANDUR_DLC_STATE_IDLE = 0, /* DLIDLE */
+    HASFANDUR_DLC_STATE_RESET = 1, /* DLRESET */
+    HASFANDUR_DLC_STATE_DATA = 2, /* DLDATA */
+    HASFANDUR_DLC_STATE_WAIT = 3 /* DLDWAIT */
 };
+/* end states */
+
+/* A DLC packet's first octet. */
+/* begin kinds: written by include/numbers */
+enum hasfandur_dlc_kind {
+    HASFANDUR_DLC_RESET = 0x10, /* RESET */
+    HASFANDUR_DLC_RESET_ACK = 0x20, /* RESET_ACK */
+    HASFANDUR_DLC_DATA = 0x40, /* DATA, to which its number is added */
+    HASFANDUR_DLC_DACK = 0x50 /* DACK, likewise */
+};
+/* end kinds */
 
 /* A slot of the queue: a payload stands in the first `length` octets. */
 typedef struct hasfandur_dlc_queued {
@@ -166,9 +192,10 @@ typedef struct hasfandur_dlc_queue {
  * One end of a DLC link, which goes from call to call by value: a hasfandur_dlc_state; the payloads that the other end has
  * not acknowledged; the oldest one's number (the next to be given where there is none); the number expected next.
  *
- * It is well formed where the state is at most 3, the count at most 7, each of the first `count` lengths at most 256, both
- * numbers at most 15, the state HASFANDUR_DLC_WAIT exactly where the queue is not empty, and both numbers 0 in
- * HASFANDUR_DLC_IDLE and HASFANDUR_DLC_RESET. A fresh link is so, and what an event gives back for such a link.
+ * It is well formed where the state is one of the four, the count at most HASFANDUR_DLC_SLOTS, each of the first `count` lengths
+ * at most HASFANDUR_DLC_MAX_PAYLOAD, both numbers at most 15, the state HASFANDUR_DLC_STATE_WAIT exactly where the queue is not
+ * empty, and both numbers 0 in HASFANDUR_DLC_STATE_IDLE and HASFANDUR_DLC_STATE_RESET. A fresh link is so, and what an event
+ * gives back for such a link.
  *
  * No answer depends on what free slots hold, or a slot's octets behind its payload. After a refusal they are as they came;
  * after any other answer nothing is promised of them.
@@ -199,8 +226,8 @@ typedef struct hasfandur_dlc_outcome {
     hasfandur_dlc_answer answer;
 } hasfandur_dlc_outcome;
 
-/* A link before any event: HASFANDUR_DLC_IDLE, queue empty, numbers 0. */
-hasfandur_dlc_link hasfandur_dlc_fresh(void);
+/* A link before any event: HASFANDUR_DLC_STATE_IDLE, queue empty, numbers 0. */
+HASFANDUR_MUST_USE hasfandur_dlc_link hasfandur_dlc_fresh(void);
 
 /*
  * The four events. Each takes the link that the last call at this end gave back, and gives the next one back. Packets to be
@@ -210,41 +237,41 @@ hasfandur_dlc_link hasfandur_dlc_fresh(void);
  * HASFANDUR_DLC_REPLY octets, also where nothing is sent), then those named at each event. A refusal gives the very link
  * back that came, sends nothing and writes nothing. Otherwise HASFANDUR_DONE, or in one case HASFANDUR_DLC_OTHER_NUMBER.
  *
- * Start: HASFANDUR_DLC_IDLE goes to HASFANDUR_DLC_RESET; nothing is sent before the timer. HASFANDUR_DLC_NO_ENTRY in every
- * other state.
+ * Start: HASFANDUR_DLC_STATE_IDLE goes to HASFANDUR_DLC_STATE_RESET; nothing is sent before the timer. HASFANDUR_DLC_NO_ENTRY
+ * in every other state.
  */
-hasfandur_dlc_outcome hasfandur_dlc_start(hasfandur_dlc_link link, uint8_t *reply, size_t reply_length);
+HASFANDUR_MUST_USE hasfandur_dlc_outcome hasfandur_dlc_start(hasfandur_dlc_link link, uint8_t *reply, size_t reply_length);
 
 /*
- * The timer ran out: HASFANDUR_DLC_RESET sends RESET (10); HASFANDUR_DLC_WAIT sends every queued payload as DATA (4x, x its
- * number), oldest first, and removes none. The link is as before. HASFANDUR_DLC_NO_ENTRY in the other states.
+ * The timer ran out: HASFANDUR_DLC_STATE_RESET sends RESET (10); HASFANDUR_DLC_STATE_WAIT sends every queued payload as DATA
+ * (4x, x its number), oldest first, and removes none. The link is as before. HASFANDUR_DLC_NO_ENTRY in the other states.
  */
-hasfandur_dlc_outcome hasfandur_dlc_timer(hasfandur_dlc_link link, uint8_t *reply, size_t reply_length);
+HASFANDUR_MUST_USE hasfandur_dlc_outcome hasfandur_dlc_timer(hasfandur_dlc_link link, uint8_t *reply, size_t reply_length);
 
 /*
- * A payload to be sent, of 0 to 256 octets: it is queued, and the state is HASFANDUR_DLC_WAIT. The timer sends it.
- * HASFANDUR_DLC_PAYLOAD_TOO_LONG; HASFANDUR_DLC_NOT_OPEN (in HASFANDUR_DLC_IDLE and HASFANDUR_DLC_RESET);
+ * A payload to be sent, which may be empty: it is queued, and the state is HASFANDUR_DLC_STATE_WAIT. The timer sends it.
+ * HASFANDUR_DLC_PAYLOAD_TOO_LONG; HASFANDUR_DLC_NOT_OPEN (in HASFANDUR_DLC_STATE_IDLE and HASFANDUR_DLC_STATE_RESET);
  * HASFANDUR_DLC_QUEUE_FULL.
  */
-hasfandur_dlc_outcome hasfandur_dlc_payload(hasfandur_dlc_link link, const uint8_t *payload, size_t payload_length,
-                                            uint8_t *reply, size_t reply_length);
+HASFANDUR_MUST_USE hasfandur_dlc_outcome hasfandur_dlc_payload(hasfandur_dlc_link link, const uint8_t *payload,
+                                                               size_t payload_length, uint8_t *reply, size_t reply_length);
 
 /*
- * A packet arrived. HASFANDUR_DLC_BAD_PACKET in every state: it is empty, of no kind below, over 257 octets, or not DATA and
- * longer than one; in RESET and RESET_ACK the low four bits are not 0. Otherwise by its kind:
+ * A packet arrived. HASFANDUR_DLC_BAD_PACKET in every state: it is empty, of no kind below, over HASFANDUR_DLC_MAX_PACKET
+ * octets, or not DATA and longer than one; in RESET and RESET_ACK the low four bits are not 0. Otherwise by its kind:
  *
  * RESET (10), in every state: queue emptied, numbers 0, the upper layer told to reset, RESET_ACK sent, to
- * HASFANDUR_DLC_DATA.
- * RESET_ACK (20): HASFANDUR_DLC_RESET goes to HASFANDUR_DLC_DATA. HASFANDUR_DLC_NO_ENTRY in every other state.
- * DATA (4x), in HASFANDUR_DLC_DATA and HASFANDUR_DLC_WAIT: where x is the expected number its payload is delivered and the
- * expected number counts on, modulo 16; otherwise the answer is HASFANDUR_DLC_OTHER_NUMBER and nothing is delivered. Either
- * way DACK (5x) is sent with the number now expected. HASFANDUR_DLC_NO_ENTRY in the other states.
- * DACK (5x), in HASFANDUR_DLC_WAIT: x less `base`, modulo 16, is how many of the oldest payloads are removed, and `base`
- * becomes x; an emptied queue goes to HASFANDUR_DLC_DATA. HASFANDUR_DLC_NO_ENTRY where that is none or more than are
+ * HASFANDUR_DLC_STATE_DATA.
+ * RESET_ACK (20): HASFANDUR_DLC_STATE_RESET goes to HASFANDUR_DLC_STATE_DATA. HASFANDUR_DLC_NO_ENTRY in every other state.
+ * DATA (4x), in HASFANDUR_DLC_STATE_DATA and HASFANDUR_DLC_STATE_WAIT: where x is the expected number its payload is delivered
+ * and the expected number counts on, modulo 16; otherwise the answer is HASFANDUR_DLC_OTHER_NUMBER and nothing is delivered.
+ * Either way DACK (5x) is sent with the number now expected. HASFANDUR_DLC_NO_ENTRY in the other states.
+ * DACK (5x), in HASFANDUR_DLC_STATE_WAIT: x less `base`, modulo 16, is how many of the oldest payloads are removed, and `base`
+ * becomes x; an emptied queue goes to HASFANDUR_DLC_STATE_DATA. HASFANDUR_DLC_NO_ENTRY where that is none or more than are
  * queued, and in the other states.
  */
-hasfandur_dlc_outcome hasfandur_dlc_arrival(hasfandur_dlc_link link, const uint8_t *packet, size_t packet_length,
-                                            uint8_t *reply, size_t reply_length);
+HASFANDUR_MUST_USE hasfandur_dlc_outcome hasfandur_dlc_arrival(hasfandur_dlc_link link, const uint8_t *packet,
+                                                               size_t packet_length, uint8_t *reply, size_t reply_length);
 
 /*
  * AFP's sum of octets: eight bits with end-around carry, from 0. And the two forms in which a header holds sums: of the
@@ -285,8 +312,8 @@ typedef struct hasfandur_reading {
 } hasfandur_reading;
 
 /*
- * Reads an AFP frame. Refusals in rising order: HASFANDUR_AFP_BAD_LENGTH (30) to HASFANDUR_AFP_BAD_DATA (40). Otherwise
- * HASFANDUR_DONE, and every part lies within the frame.
+ * Reads an AFP frame. Refusals in rising order, HASFANDUR_AFP_BAD_LENGTH to HASFANDUR_AFP_BAD_DATA. Otherwise HASFANDUR_DONE, and
+ * every part lies within the frame.
  */
 hasfandur_reading hasfandur_afp_read(const uint8_t *frame, size_t length);
 
@@ -305,6 +332,83 @@ typedef hasfandur_written hasfandur_afp_written;
 hasfandur_afp_written hasfandur_afp_write(uint8_t protocol, const uint8_t *stations, size_t stations_length, size_t next,
                                           const uint8_t *supplementary, size_t supplementary_length, const uint8_t *data,
                                           size_t data_length, uint8_t *out, size_t out_length);
+
+/* The name of a number given back, for logs: what stands behind HASFANDUR_. */
+/* begin names: written by include/numbers */
+static inline const char *hasfandur_number_name(uint8_t number)
+{
+    switch (number) {
+    case HASFANDUR_DONE:
+        return "DONE";
+    case HASFANDUR_QAFT_NO_DATA:
+        return "QAFT_NO_DATA";
+    case HASFANDUR_QAFT_DATA_TOO_LONG:
+        return "QAFT_DATA_TOO_LONG";
+    case HASFANDUR_QAFT_OUT_TOO_SMALL:
+        return "QAFT_OUT_TOO_SMALL";
+    case HASFANDUR_QAFT_BUFFER_TOO_SMALL:
+        return "QAFT_BUFFER_TOO_SMALL";
+    case HASFANDUR_QAFT_BAD_STATE:
+        return "QAFT_BAD_STATE";
+    case HASFANDUR_QAFT_BAD_LEVEL:
+        return "QAFT_BAD_LEVEL";
+    case HASFANDUR_QAFT_FRAME:
+        return "QAFT_FRAME";
+    case HASFANDUR_QAFT_ABORTED:
+        return "QAFT_ABORTED";
+    case HASFANDUR_QAFT_LONG:
+        return "QAFT_LONG";
+    case HASFANDUR_QAFT_SHORT:
+        return "QAFT_SHORT";
+    case HASFANDUR_QAFT_BAD_CHECK:
+        return "QAFT_BAD_CHECK";
+    case HASFANDUR_QAFT_USED_UP:
+        return "QAFT_USED_UP";
+    case HASFANDUR_DLC_NOT_OPEN:
+        return "DLC_NOT_OPEN";
+    case HASFANDUR_DLC_PAYLOAD_TOO_LONG:
+        return "DLC_PAYLOAD_TOO_LONG";
+    case HASFANDUR_DLC_QUEUE_FULL:
+        return "DLC_QUEUE_FULL";
+    case HASFANDUR_DLC_BAD_PACKET:
+        return "DLC_BAD_PACKET";
+    case HASFANDUR_DLC_NO_ENTRY:
+        return "DLC_NO_ENTRY";
+    case HASFANDUR_DLC_OTHER_NUMBER:
+        return "DLC_OTHER_NUMBER";
+    case HASFANDUR_DLC_REPLY_TOO_SMALL:
+        return "DLC_REPLY_TOO_SMALL";
+    case HASFANDUR_DLC_BAD_LINK:
+        return "DLC_BAD_LINK";
+    case HASFANDUR_AFP_BAD_LENGTH:
+        return "AFP_BAD_LENGTH";
+    case HASFANDUR_AFP_BAD_CHECK:
+        return "AFP_BAD_CHECK";
+    case HASFANDUR_AFP_BAD_VERSION:
+        return "AFP_BAD_VERSION";
+    case HASFANDUR_AFP_BAD_PROTOCOL:
+        return "AFP_BAD_PROTOCOL";
+    case HASFANDUR_AFP_BAD_OFFSET:
+        return "AFP_BAD_OFFSET";
+    case HASFANDUR_AFP_BAD_STATIONS:
+        return "AFP_BAD_STATIONS";
+    case HASFANDUR_AFP_BAD_NEXT:
+        return "AFP_BAD_NEXT";
+    case HASFANDUR_AFP_BAD_NEXT_SUM:
+        return "AFP_BAD_NEXT_SUM";
+    case HASFANDUR_AFP_BAD_SUPPLEMENTARY:
+        return "AFP_BAD_SUPPLEMENTARY";
+    case HASFANDUR_AFP_BAD_HEADER_SUM:
+        return "AFP_BAD_HEADER_SUM";
+    case HASFANDUR_AFP_BAD_DATA:
+        return "AFP_BAD_DATA";
+    case HASFANDUR_AFP_OUT_TOO_SMALL:
+        return "AFP_OUT_TOO_SMALL";
+    default:
+        return "no number of hasfandur";
+    }
+}
+/* end names */
 
 #ifdef __cplusplus
 }

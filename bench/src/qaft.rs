@@ -89,13 +89,26 @@ fn reading(
     move || read_line(&line, chunk, &mut store, &read)
 }
 
+/// The archive's reader; its state is in C's numbers.
+fn ours(from: State, chunk: &[u8], store: &mut [u8]) -> (State, Answer) {
+    let (next, answer) = archive::qaft_read(from.into(), chunk, store);
+    let state = State {
+        level: next.level,
+        flag: next.synced != 0,
+        pending: next.pending != 0,
+        count: next.count,
+        sum: next.sum,
+    };
+    (state, answer)
+}
+
 fn reader(what: &'static str, size: usize, chunk: usize) -> Row {
     let line = line(size);
     let row = Row::new(
         what,
         "octet",
         line.len(),
-        reading(&line, chunk, archive::qaft_read),
+        reading(&line, chunk, ours),
     )
     .beside("second", reading(&line, chunk, second::reader::read))
     .beside("plain C", reading(&line, chunk, others::qaft_read));

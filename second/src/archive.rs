@@ -32,14 +32,27 @@ struct RawReading {
     unchecked: u8,
 }
 
-/// Its bools are taken as numbers too.
+/// The reader's state as C has it: any number but 0 in `synced` and `pending` stands for true.
 #[repr(C)]
-struct RawReader {
-    level: u8,
-    synced: u8,
-    pending: u8,
-    count: usize,
-    sum: u8,
+#[derive(Debug, Clone, Copy, PartialEq, Eq)]
+pub struct RawReader {
+    pub level: u8,
+    pub synced: u8,
+    pub pending: u8,
+    pub count: usize,
+    pub sum: u8,
+}
+
+impl From<State> for RawReader {
+    fn from(state: State) -> Self {
+        RawReader {
+            level: state.level,
+            synced: state.flag.into(),
+            pending: state.pending.into(),
+            count: state.count,
+            sum: state.sum,
+        }
+    }
 }
 
 #[repr(C)]
@@ -50,7 +63,7 @@ struct RawAnswer {
     reader: RawReader,
 }
 
-#[link(name = "desk", kind = "static")]
+#[link(name = "hasfandur", kind = "static")]
 extern "C" {
     fn hasfandur_qaft_check(octets: *const u8, length: usize) -> u8;
     fn hasfandur_qaft_write(
@@ -111,29 +124,11 @@ pub fn qaft_write(level: u8, at_flag: bool, data: &[u8], out: &mut [u8]) -> Writ
     written(unsafe { hasfandur_qaft_write(level, at_flag, data.as_ptr(), data.len(), place, room) })
 }
 
-fn state(raw: RawReader) -> State {
-    assert!(raw.synced < 2 && raw.pending < 2, "a bool of the archive");
-    State {
-        level: raw.level,
-        flag: raw.synced == 1,
-        pending: raw.pending == 1,
-        count: raw.count,
-        sum: raw.sum,
-    }
+pub fn qaft_fresh(level: u8) -> RawReader {
+    unsafe { hasfandur_qaft_fresh(level) }
 }
 
-pub fn qaft_fresh(level: u8) -> State {
-    state(unsafe { hasfandur_qaft_fresh(level) })
-}
-
-pub fn qaft_read(from: State, portion: &[u8], store: &mut [u8]) -> (State, Answer) {
-    let reader = RawReader {
-        level: from.level,
-        synced: from.flag.into(),
-        pending: from.pending.into(),
-        count: from.count,
-        sum: from.sum,
-    };
+pub fn qaft_read(reader: RawReader, portion: &[u8], store: &mut [u8]) -> (RawReader, Answer) {
     let (place, room) = (store.as_mut_ptr(), store.len());
     let raw = unsafe { hasfandur_qaft_read(reader, portion.as_ptr(), portion.len(), place, room) };
     let answer = Answer {
@@ -141,7 +136,7 @@ pub fn qaft_read(from: State, portion: &[u8], store: &mut [u8]) -> (State, Answe
         taken: raw.taken,
         length: raw.length,
     };
-    (state(raw.reader), answer)
+    (raw.reader, answer)
 }
 
 pub fn afp_sum(octets: &[u8]) -> u8 {

@@ -10,6 +10,8 @@ pub mod reader;
 pub mod rng;
 
 #[cfg(test)]
+mod numbers;
+#[cfg(test)]
 mod runs;
 #[cfg(test)]
 mod worked;

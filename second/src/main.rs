@@ -5,7 +5,7 @@
 
 #[cfg(archive_missing)]
 compile_error!(
-    "target/staticlib/libdesk.a is missing: run `rt staticlib desk` at the repository's top, or second/run"
+    "target/staticlib/libhasfandur.a is missing: run `rt staticlib hasfandur` at the repository's top, or second/run"
 );
 
 #[allow(unsafe_code)]

@@ -11,7 +11,7 @@ use lib.Seq.{length-take-le, take-take}
 use Rattle.afp.proofs.Refusals.{variable-rest}
 use Rattle.afp.specs.Layout.{octet, offset, checkedLength, checkedPart, variablePart, stationsIn, receivedSum, dataLength}
 use Rattle.afp.specs.Meaning.{Meaning, refused, means, meant, meaning, shown, verdict}
-use Rattle.afp.specs.Numbers.{shortestFrame, shortestHeader, longestHeader}
+use Rattle.afp.specs.Limits.{minFrame, minHeader, maxHeader}
 use Rattle.afp.specs.Reading.{envelopeRefusals, fixedRefusals, stationRefusals, restRefusals, refusals, refusedReading, acceptedReading, readOf}
 use Rattle.afp.specs.declared.Reading.{Reading}
 use Rattle.common.proofs.FirstRefusal.{first-passed, guarded-++, guarded-first, guarded-map-numbered}
@@ -27,25 +27,25 @@ use Rattle.sums.specs.Sum.{notCalculated}
 use Rattle.supplementary.specs.Options.{supplementaryIn}
 
 -- ---- what passed tests say of the frame's length and offset
-pub envelope-fits : (f : List ℕ) → 0 ≡ firstRefusal (envelopeRefusals f) → shortestFrame ≤ length f
+pub envelope-fits : (f : List ℕ) → 0 ≡ firstRefusal (envelopeRefusals f) → minFrame ≤ length f
 unfolding envelopeRefusals
-envelope-fits f e = let p = first-passed (envelopeRefusals f) tt (sym e) in ltb-false (length f) shortestFrame (p .0)
+envelope-fits f e = let p = first-passed (envelopeRefusals f) tt (sym e) in ltb-false (length f) minFrame (p .0)
 
-pub fixed-fits : (f : List ℕ) → shortestFrame ≤ length f → 0 ≡ firstRefusal (fixedRefusals f) → (shortestHeader ≤ offset f) × (offset f ≤ longestHeader) × (offset f + 2 ≤ length f)
+pub fixed-fits : (f : List ℕ) → minFrame ≤ length f → 0 ≡ firstRefusal (fixedRefusals f) → (minHeader ≤ offset f) × (offset f ≤ maxHeader) × (offset f + 2 ≤ length f)
 unfolding fixedRefusals
 fixed-fits f n e =
     let p = first-passed (fixedRefusals f) tt (sym e) in
-    let a : shortestHeader ≤ offset f = ltb-false (offset f) shortestHeader (p .1 .1 .0) in
-    let b : offset f ≤ longestHeader = ltb-false longestHeader (offset f) (p .1 .1 .1 .0) in
+    let a : minHeader ≤ offset f = ltb-false (offset f) minHeader (p .1 .1 .0) in
+    let b : offset f ≤ maxHeader = ltb-false maxHeader (offset f) (p .1 .1 .1 .0) in
     let c : offset f ≤ checkedLength f = ltb-false (checkedLength f) (offset f) (p .1 .1 .1 .1 .0) in
     (a, b, omega arith)
 
 -- ---- the station fields of a frame
-pub length-variable : (f : List ℕ) → shortestHeader ≤ offset f → offset f + 2 ≤ length f → length (variablePart f) ≡ offset f - 6
+pub length-variable : (f : List ℕ) → minHeader ≤ offset f → offset f + 2 ≤ length f → length (variablePart f) ≡ offset f - 6
 unfolding variablePart
 length-variable f a b = length-take-le (offset f - 6) (drop fieldsAt f) (rw (length-drop fieldsAt f) (omega arith))
 
-pub stations-bound : (f : List ℕ) → shortestHeader ≤ offset f → offset f + 2 ≤ length f → stationsIn f .end + 6 ≤ offset f
+pub stations-bound : (f : List ℕ) → minHeader ≤ offset f → offset f + 2 ≤ length f → stationsIn f .end + 6 ≤ offset f
 unfolding stationsIn
 stations-bound f a b =
     let w = stations-within (octet f 4 - fieldsAt) 0 (variablePart f) in
@@ -174,7 +174,7 @@ module _ (f : List ℕ) where
     read-fixed n e z = answered n (refused-fixed refusedReading (acceptedReading f (stationsIn f)) f a n e z)
 
     module _ (b : 0 ≡ firstRefusal (fixedRefusals f)) where
-      pub offset-fits : (shortestHeader ≤ offset f) × (offset f + 2 ≤ length f)
+      pub offset-fits : (minHeader ≤ offset f) × (offset f + 2 ≤ length f)
       offset-fits = let p = fixed-fits f (envelope-fits f a) b in (p .0, p .2)
 
       module _ (r : Stations) (re : r ≡ stationsIn f) where

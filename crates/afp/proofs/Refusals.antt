@@ -15,7 +15,8 @@ use Rattle.fcs.specs.Fcs.{checkSequence}
 use Rattle.stations.specs.declared.Stations.{Stations}
 use Rattle.stations.specs.Fields.{fieldsAt, nextOffset, lacksNext}
 use Rattle.supplementary.specs.Options.{validSupplementary}
-use Rattle.afp.specs.Numbers.{shortestFrame, longestFrame, shortestHeader, longestHeader, longestData, version, firstReserved, badLength, badCheck, badVersion, badProtocol, badOffset, badStations, badNext, badNextSum, badSupplementary, badHeaderSum, badData}
+use Rattle.afp.specs.Limits.{minFrame, maxFrame, minHeader, maxHeader, maxData, version, firstReserved}
+use Rattle.afp.specs.Answers.{badLength, badCheck, badVersion, badProtocol, badOffset, badStations, badNext, badNextSum, badSupplementary, badHeaderSum, badData}
 use Rattle.afp.specs.Layout.{octet, offset, checkedLength, checkedPart, receivedCheck, variablePart, receivedSum, summedPart, rightHeaderSum, dataLength}
 use Rattle.afp.specs.Reading.{envelopeRefusals, fixedRefusals, stationRefusals, restRefusals}
 
@@ -24,21 +25,21 @@ module _ (f : List ℕ) where
   abbrev envelope : ℕ
   envelope = firstRefusal (envelopeRefusals f)
 
-  pub envelope-short : length f < shortestFrame → badLength ≡ envelope
+  pub envelope-short : length f < minFrame → badLength ≡ envelope
   unfolding envelopeRefusals
-  envelope-short h = first-stop _ badLength _ (lt-ltb (length f) shortestFrame h)
+  envelope-short h = first-stop _ badLength _ (lt-ltb (length f) minFrame h)
 
-  module _ (a : shortestFrame ≤ length f) where
-    pub envelope-long : longestFrame < length f → badLength ≡ envelope
+  module _ (a : minFrame ≤ length f) where
+    pub envelope-long : maxFrame < length f → badLength ≡ envelope
     unfolding envelopeRefusals
     envelope-long h =
-        first-skip _ badLength _ badLength (le-ltb (length f) shortestFrame a) (first-stop _ badLength _ (lt-ltb longestFrame (length f) h))
+        first-skip _ badLength _ badLength (le-ltb (length f) minFrame a) (first-stop _ badLength _ (lt-ltb maxFrame (length f) h))
 
-    module _ (b : length f ≤ longestFrame) (received check : ℕ) (re : received ≡ receivedCheck f) (ce : check ≡ checkSequence (checkedPart f)) where
+    module _ (b : length f ≤ maxFrame) (received check : ℕ) (re : received ≡ receivedCheck f) (ce : check ≡ checkSequence (checkedPart f)) where
       within : (v : ℕ) → v ≡ cond (not (eqb (receivedCheck f) (checkSequence (checkedPart f)))) badCheck 0 → v ≡ envelope
       unfolding envelopeRefusals
       within v p =
-          first-skip _ badLength _ v (le-ltb (length f) shortestFrame a) (first-skip _ badLength _ v (le-ltb longestFrame (length f) b) p)
+          first-skip _ badLength _ v (le-ltb (length f) minFrame a) (first-skip _ badLength _ v (le-ltb maxFrame (length f) b) p)
 
       pub envelope-check : (received ≡ check → ⊥) → badCheck ≡ envelope
       envelope-check h =
@@ -66,26 +67,26 @@ module _ (f : List ℕ) where
 
     module _ (b : octet f 2 < firstReserved) (o : ℕ) (oe : o ≡ offset f) where
       to-offset : (v : ℕ)
-          → v ≡ firstRefusal ((ltb (offset f) shortestHeader, badOffset) ∷ (ltb longestHeader (offset f), badOffset) ∷ (ltb (checkedLength f) (offset f), badOffset) ∷ [])
+          → v ≡ firstRefusal ((ltb (offset f) minHeader, badOffset) ∷ (ltb maxHeader (offset f), badOffset) ∷ (ltb (checkedLength f) (offset f), badOffset) ∷ [])
           → v ≡ fixed
       unfolding fixedRefusals
       to-offset v p =
           first-skip _ badVersion _ v (ap not (eq-eqb (octet f 1) version a)) (first-skip _ badProtocol _ v (lt-leb firstReserved (octet f 2) b) p)
 
-      pub fixed-low : o < shortestHeader → badOffset ≡ fixed
-      fixed-low h = to-offset badOffset (first-stop _ badOffset _ (lt-ltb (offset f) shortestHeader (omega arith)))
+      pub fixed-low : o < minHeader → badOffset ≡ fixed
+      fixed-low h = to-offset badOffset (first-stop _ badOffset _ (lt-ltb (offset f) minHeader (omega arith)))
 
-      module _ (c : shortestHeader ≤ o) where
-        pub fixed-high : longestHeader < o → badOffset ≡ fixed
+      module _ (c : minHeader ≤ o) where
+        pub fixed-high : maxHeader < o → badOffset ≡ fixed
         fixed-high h =
             to-offset badOffset
-            (first-skip _ badOffset _ badOffset (le-ltb (offset f) shortestHeader (omega arith)) (first-stop _ badOffset _ (lt-ltb longestHeader (offset f) (omega arith))))
+            (first-skip _ badOffset _ badOffset (le-ltb (offset f) minHeader (omega arith)) (first-stop _ badOffset _ (lt-ltb maxHeader (offset f) (omega arith))))
 
-        module _ (d : o ≤ longestHeader) where
+        module _ (d : o ≤ maxHeader) where
           to-end : (v : ℕ) → v ≡ cond (ltb (checkedLength f) (offset f)) badOffset 0 → v ≡ fixed
           to-end v p =
               to-offset v
-              (first-skip _ badOffset _ v (le-ltb (offset f) shortestHeader (omega arith)) (first-skip _ badOffset _ v (le-ltb longestHeader (offset f) (omega arith)) p))
+              (first-skip _ badOffset _ v (le-ltb (offset f) minHeader (omega arith)) (first-skip _ badOffset _ v (le-ltb maxHeader (offset f) (omega arith)) p))
 
           pub fixed-over : checkedLength f < o → badOffset ≡ fixed
           fixed-over h = to-end badOffset (first-stop _ badOffset _ (lt-ltb (checkedLength f) (offset f) (omega arith)))
@@ -147,13 +148,13 @@ module _ (f : List ℕ) (k o : ℕ) (oe : o ≡ offset f) (g : Bool) (ge : g ≡
     rest-sum h = first-skip _ badSupplementary _ badHeaderSum (ap not (valid-is ∙ a)) (first-stop _ badHeaderSum _ (ap not (right-is ∙ h)))
 
     -- the data are judged last
-    pub rest-last : s ≡ true → (v : ℕ) → v ≡ cond (ltb longestData (dataLength f)) badData 0 → v ≡ rest
+    pub rest-last : s ≡ true → (v : ℕ) → v ≡ cond (ltb maxData (dataLength f)) badData 0 → v ≡ rest
     unfolding restRefusals
     rest-last b v p = first-skip _ badSupplementary _ v (ap not (valid-is ∙ a)) (first-skip _ badHeaderSum _ v (ap not (right-is ∙ b)) p)
 
 module _ (f : List ℕ) (o : ℕ) (oe : o ≡ offset f) where
-  pub data-long : longestData < length f - 2 - o → badData ≡ cond (ltb longestData (dataLength f)) badData 0
-  data-long h = first-stop _ badData _ (lt-ltb longestData (dataLength f) (omega arith))
+  pub data-long : maxData < length f - 2 - o → badData ≡ cond (ltb maxData (dataLength f)) badData 0
+  data-long h = first-stop _ badData _ (lt-ltb maxData (dataLength f) (omega arith))
 
-  pub data-fits : length f - 2 - o ≤ longestData → 0 ≡ cond (ltb longestData (dataLength f)) badData 0
-  data-fits h = first-skip _ badData _ 0 (le-ltb longestData (dataLength f) (omega arith)) refl
+  pub data-fits : length f - 2 - o ≤ maxData → 0 ≡ cond (ltb maxData (dataLength f)) badData 0
+  data-fits h = first-skip _ badData _ 0 (le-ltb maxData (dataLength f) (omega arith)) refl

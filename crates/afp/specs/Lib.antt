@@ -1,4 +1,5 @@
-pub mod Numbers
+pub mod Answers
+pub mod Limits
 pub mod Layout
 pub mod Reading
 pub mod Meaning

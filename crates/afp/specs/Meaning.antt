@@ -8,7 +8,7 @@ use mathlib.Core.List.{List}
 use mathlib.Core.Option.{Option}
 use Prim.Native.Nat.{ℕ}
 use lib.Dec.{eqb}
-use lib.ListN.{length, take, drop}
+use lib.ListN.{take, drop}
 use Rattle.common.specs.Refusals.{guarded}
 use Rattle.sums.specs.Sum.{notCalculated}
 use Rattle.stations.specs.IdList.{idsOf}

@@ -13,7 +13,8 @@ use Rattle.fcs.specs.Fcs.{checkSequence}
 use Rattle.stations.specs.declared.Stations.{Stations}
 use Rattle.stations.specs.Fields.{fieldsAt, nextOffset, lacksNext}
 use Rattle.supplementary.specs.Options.{validSupplementary}
-use Rattle.afp.specs.Numbers.{shortestFrame, longestFrame, shortestHeader, longestHeader, longestData, version, firstReserved, badLength, badCheck, badVersion, badProtocol, badOffset, badStations, badNext, badNextSum, badSupplementary, badHeaderSum, badData}
+use Rattle.afp.specs.Limits.{minFrame, maxFrame, minHeader, maxHeader, maxData, version, firstReserved}
+use Rattle.afp.specs.Answers.{done, badLength, badCheck, badVersion, badProtocol, badOffset, badStations, badNext, badNextSum, badSupplementary, badHeaderSum, badData}
 use Rattle.afp.specs.Layout.{octet, offset, checkedLength, checkedPart, receivedCheck, variablePart, stationsIn, receivedSum, summedPart, rightHeaderSum, dataLength}
 use Rattle.afp.specs.declared.Part.{Part}
 use Rattle.afp.specs.declared.Reading.{Reading}
@@ -21,8 +22,8 @@ use Rattle.afp.specs.declared.Reading.{Reading}
 -- "frame length; check sequence"
 unfoldable pub envelopeRefusals : List ℕ → List Refusal
 envelopeRefusals f =
-    (ltb (length f) shortestFrame, badLength)
-    ∷ (ltb longestFrame (length f), badLength)
+    (ltb (length f) minFrame, badLength)
+    ∷ (ltb maxFrame (length f), badLength)
     ∷ (not (eqb (receivedCheck f) (checkSequence (checkedPart f))), badCheck)
     ∷ []
 
@@ -31,8 +32,8 @@ unfoldable pub fixedRefusals : List ℕ → List Refusal
 fixedRefusals f =
     (not (eqb (octet f 1) version), badVersion)
     ∷ (leb firstReserved (octet f 2), badProtocol)
-    ∷ (ltb (offset f) shortestHeader, badOffset)
-    ∷ (ltb longestHeader (offset f), badOffset)
+    ∷ (ltb (offset f) minHeader, badOffset)
+    ∷ (ltb maxHeader (offset f), badOffset)
     ∷ (ltb (checkedLength f) (offset f), badOffset)
     ∷ []
 
@@ -50,7 +51,7 @@ unfoldable pub restRefusals : List ℕ → ℕ → List Refusal
 restRefusals f e =
     (not (validSupplementary (drop e (variablePart f))), badSupplementary)
     ∷ (not (rightHeaderSum (receivedSum f) (summedPart f)), badHeaderSum)
-    ∷ (ltb longestData (dataLength f), badData)
+    ∷ (ltb maxData (dataLength f), badData)
     ∷ []
 
 -- "AFP reader 30 upward"
@@ -71,7 +72,7 @@ refusedReading n =
 unfoldable pub acceptedReading : List ℕ → Stations → Reading
 acceptedReading f r =
     record {
-      number = 0;
+      number = done;
       protocol = octet f 2;
       stations = record { place = fieldsAt; size = r .end };
       ids = r .count;

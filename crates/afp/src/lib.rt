@@ -3,22 +3,22 @@ ghost use mathlib.Core.Path.{_≡_};
 ghost use Prim.Native.Nat.{_+_, _-_, _≤_};
 ghost use lib.ListN.{length};
 ghost use Rattle.common.specs.FirstRefusal.{firstRefusal};
-ghost use Rattle.afp.specs.Numbers.{shortestFrame, shortestHeader};
+ghost use Rattle.afp.specs.Limits.{minFrame, minHeader};
 ghost use Rattle.afp.specs.Layout.{offset, stationsIn, rightHeaderSum};
 ghost use Rattle.afp.specs.Reading.{envelopeRefusals, fixedRefusals, stationRefusals, restRefusals, refusedReading, acceptedReading, readOf};
 ghost use Rattle.afp.specs.Meaning.{partOf, meaning, verdict};
 use stations::Stations;
 
 // Limits of a frame.
-const SHORTEST_FRAME: usize = 14;
+pub const MIN_FRAME: usize = 14;
 
-const LONGEST_FRAME: usize = 2560;
+pub const MAX_FRAME: usize = 2560;
 
-pub const SHORTEST_HEADER: usize = 12;
+pub const MIN_HEADER: usize = 12;
 
-pub const LONGEST_HEADER: usize = 254;
+pub const MAX_HEADER: usize = 254;
 
-pub const LONGEST_DATA: usize = 2304;
+pub const MAX_DATA: usize = 2304;
 
 pub const VERSION: u8 = 1;
 
@@ -29,7 +29,9 @@ const NOT_CALCULATED: u8 = 0;
 // Where the station fields begin.
 pub const FIELDS_AT: usize = 5;
 
-// Refusals, in their order.
+// The numbers given back (specs/Answers): the reader's refusals in their order, then the writer's own.
+pub const DONE: u8 = 0;
+
 pub const BAD_LENGTH: u8 = 30;
 
 pub const BAD_CHECK: u8 = 31;
@@ -51,6 +53,8 @@ pub const BAD_SUPPLEMENTARY: u8 = 38;
 pub const BAD_HEADER_SUM: u8 = 39;
 
 pub const BAD_DATA: u8 = 40;
+
+pub const OUT_TOO_SMALL: u8 = 41;
 
 // A part of a frame.
 #[repr(C)]
@@ -85,15 +89,15 @@ fn wide(x: u8) -> u16
     x as u16
 }
 
-// The refusal of a frame's length or check sequence, or 0.
+// The refusal of a frame's length or check sequence, or DONE.
 fn envelope_refusal(f: &[u8]) -> u8
     ensures { λ r. ⌜ r ≡ firstRefusal (envelopeRefusals (now (f .entry))) ⌝ }
 {
     let n = f.len();
-    if n < SHORTEST_FRAME {
+    if n < MIN_FRAME {
         return BAD_LENGTH;
     }
-    if LONGEST_FRAME < n {
+    if MAX_FRAME < n {
         return BAD_LENGTH;
     }
     let k = n - 2;
@@ -103,12 +107,12 @@ fn envelope_refusal(f: &[u8]) -> u8
     if received != check {
         return BAD_CHECK;
     }
-    0
+    DONE
 }
 
-// The refusal of version, protocol or data offset, or 0.
+// The refusal of version, protocol or data offset, or DONE.
 fn fixed_refusal(f: &[u8]) -> u8
-    requires { ⌜ shortestFrame ≤ length (now f) ⌝ }
+    requires { ⌜ minFrame ≤ length (now f) ⌝ }
     ensures { λ r. ⌜ r ≡ firstRefusal (fixedRefusals (now (f .entry))) ⌝ }
 {
     if f[1] != VERSION {
@@ -118,22 +122,22 @@ fn fixed_refusal(f: &[u8]) -> u8
         return BAD_PROTOCOL;
     }
     let o = size(f[3]);
-    if o < SHORTEST_HEADER {
+    if o < MIN_HEADER {
         return BAD_OFFSET;
     }
-    if LONGEST_HEADER < o {
+    if MAX_HEADER < o {
         return BAD_OFFSET;
     }
     let k = f.len() - 2;
     if k < o {
         return BAD_OFFSET;
     }
-    0
+    DONE
 }
 
 // What the station fields hold.
 fn stations_in(f: &[u8]) -> Stations
-    requires { ⌜ (shortestHeader ≤ offset (now f)) × (offset (now f) + 2 ≤ length (now f)) ⌝ }
+    requires { ⌜ (minHeader ≤ offset (now f)) × (offset (now f) + 2 ≤ length (now f)) ⌝ }
     ensures { λ r. ⌜ r ≡ stationsIn (now (f .entry)) ⌝ }
 {
     let o = size(f[3]);
@@ -147,9 +151,9 @@ fn stations_in(f: &[u8]) -> Stations
     stations::parse(variable, w, 0)
 }
 
-// The refusal of station fields, octet 4 or octet 0, or 0.
+// The refusal of station fields, octet 4 or octet 0, or DONE.
 fn station_refusal(f: &[u8], r: Stations) -> u8
-    requires { ⌜ shortestFrame ≤ length (now f) ⌝ }
+    requires { ⌜ minFrame ≤ length (now f) ⌝ }
     ensures { λ n. ⌜ n ≡ firstRefusal (stationRefusals (now (f .entry)) r) ⌝ }
 {
     let end = r.end;
@@ -165,7 +169,7 @@ fn station_refusal(f: &[u8], r: Stations) -> u8
         if f[0] != sum {
             return BAD_NEXT_SUM;
         }
-        return 0;
+        return DONE;
     }
     BAD_NEXT
 }
@@ -180,7 +184,7 @@ fn right_header_sum(y: u8, header: &[u8]) -> bool
     y == sums::header_sum(header)
 }
 
-// The refusal of supplementary header, header sum or data, or 0; the station fields have `end` octets.
+// The refusal of supplementary header, header sum or data, or DONE; the station fields have `end` octets.
 fn rest_refusal(f: &[u8], end: usize) -> u8
     requires { ⌜ (offset (now f) + 2 ≤ length (now f)) × (end + 6 ≤ offset (now f)) ⌝ }
     ensures { λ n. ⌜ n ≡ firstRefusal (restRefusals (now (f .entry)) end) ⌝ }
@@ -192,10 +196,10 @@ fn rest_refusal(f: &[u8], end: usize) -> u8
         let y = f[e];
         if right_header_sum(y, &f[..e]) {
             let n = f.len() - 2 - o;
-            if LONGEST_DATA < n {
+            if MAX_DATA < n {
                 return BAD_DATA;
             }
-            return 0;
+            return DONE;
         }
         return BAD_HEADER_SUM;
     }
@@ -230,7 +234,7 @@ fn accept(f: &[u8], r: Stations) -> Reading
     let protocol = f[2];
     let n = f.len() - 2 - o;
     Reading {
-        number: 0,
+        number: DONE,
         protocol: protocol,
         stations: Part {
             place: FIELDS_AT,
@@ -252,21 +256,21 @@ pub fn read(f: &[u8]) -> Reading
     ensures { λ r. ⌜ (r ≡ readOf (now (f .entry))) × (verdict r (now (f .entry)) ≡ meaning (now (f .entry))) ⌝ }
 {
     let a = envelope_refusal(f);
-    if a != 0 {
+    if a != DONE {
         return refuse(a);
     }
     let b = fixed_refusal(f);
-    if b != 0 {
+    if b != DONE {
         return refuse(b);
     }
     let r = stations_in(f);
     let c = station_refusal(f, r);
-    if c != 0 {
+    if c != DONE {
         return refuse(c);
     }
     let end = r.end;
     let d = rest_refusal(f, end);
-    if d != 0 {
+    if d != DONE {
         return refuse(d);
     }
     accept(f, r)

@@ -19,7 +19,7 @@ use Rattle.stations.proofs.Extent.{Accepted, stations-end, stations-local}
 use Rattle.stations.proofs.Offset.{Found, offset-none}
 use Rattle.stations.proofs.Search.{by-number}
 use Rattle.supplementary.specs.Options.{validSupplementary}
-use Rattle.afp.specs.Numbers.{shortestFrame, longestFrame, shortestHeader, longestHeader, longestData, version, firstReserved}
+use Rattle.afp.specs.Limits.{minFrame, maxFrame, minHeader, maxHeader, maxData, version, firstReserved}
 use Rattle.afp.specs.Layout.{octet, offset, checkedLength, checkedPart, receivedCheck, variablePart, stationsIn, receivedSum, summedPart, rightHeaderSum, dataLength}
 use Rattle.afp.specs.Reading.{envelopeRefusals, fixedRefusals, stationRefusals, restRefusals, refusals}
 use Rattle.afp.proofs.Answers.{length-variable}
@@ -55,13 +55,13 @@ module _ (f : List ℕ) (ok : Passed (refusals f)) where
   station-more : Passed (stationRefusals f (stationsIn f)) × Passed (restRefusals f (stationsIn f .end))
   station-more = passed-++ (stationRefusals f (stationsIn f)) (restRefusals f (stationsIn f .end)) (fixed-more .1)
 
-  pub long-enough : shortestFrame ≤ length f
+  pub long-enough : minFrame ≤ length f
   unfolding envelopeRefusals
-  long-enough = ltb-false (length f) shortestFrame (envelope-more .0 .0)
+  long-enough = ltb-false (length f) minFrame (envelope-more .0 .0)
 
-  pub short-enough : length f ≤ longestFrame
+  pub short-enough : length f ≤ maxFrame
   unfolding envelopeRefusals
-  short-enough = ltb-false longestFrame (length f) (envelope-more .0 .1 .0)
+  short-enough = ltb-false maxFrame (length f) (envelope-more .0 .1 .0)
 
   pub check-right : receivedCheck f ≡ checkSequence (checkedPart f)
   unfolding envelopeRefusals
@@ -75,13 +75,13 @@ module _ (f : List ℕ) (ok : Passed (refusals f)) where
   unfolding fixedRefusals
   protocol-below = leb-false firstReserved (octet f 2) (fixed-more .0 .1 .0)
 
-  pub offset-low : shortestHeader ≤ offset f
+  pub offset-low : minHeader ≤ offset f
   unfolding fixedRefusals
-  offset-low = ltb-false (offset f) shortestHeader (fixed-more .0 .1 .1 .0)
+  offset-low = ltb-false (offset f) minHeader (fixed-more .0 .1 .1 .0)
 
-  pub offset-high : offset f ≤ longestHeader
+  pub offset-high : offset f ≤ maxHeader
   unfolding fixedRefusals
-  offset-high = ltb-false longestHeader (offset f) (fixed-more .0 .1 .1 .1 .0)
+  offset-high = ltb-false maxHeader (offset f) (fixed-more .0 .1 .1 .1 .0)
 
   pub offset-in : offset f ≤ checkedLength f
   unfolding fixedRefusals
@@ -115,9 +115,9 @@ module _ (f : List ℕ) (ok : Passed (refusals f)) where
       by y z true i c e = absurd (c (eqb-true y notCalculated i))
       by y z false i c e = eqb-true y z e
 
-  pub payload-short : dataLength f ≤ longestData
+  pub payload-short : dataLength f ≤ maxData
   unfolding restRefusals
-  payload-short = ltb-false longestData (dataLength f) (station-more .1 .1 .1 .0)
+  payload-short = ltb-false maxData (dataLength f) (station-more .1 .1 .1 .0)
 
   -- ---- the parts
   abbrev v : List ℕ
@@ -219,10 +219,10 @@ module _ (f : List ℕ) (ok : Passed (refusals f)) where
       let ld = length-d in
       let g = payload-short in
       let l = long-enough in (
-        le-ltb (headerLength (length s) (length h)) shortestHeader (omega arith),
+        le-ltb (headerLength (length s) (length h)) minHeader (omega arith),
         (
-          le-ltb longestHeader (headerLength (length s) (length h)) (omega arith),
-          (le-ltb longestData (length d) (omega arith), (le-ltb room (headerLength (length s) (length h) + length d + 2) (omega arith), tt)),
+          le-ltb maxHeader (headerLength (length s) (length h)) (omega arith),
+          (le-ltb maxData (length d) (omega arith), (le-ltb room (headerLength (length s) (length h) + length d + 2) (omega arith), tt)),
         ),
       )
 

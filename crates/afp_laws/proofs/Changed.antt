@@ -12,7 +12,8 @@ use Rattle.common.specs.Refusals.{guarded}
 use Rattle.fcs.specs.Fcs.{preset, residue, feedAll, checkSequence}
 use Rattle.fcs.proofs.Register.{Octets}
 use Rattle.fcs.proofs.Residue.{check-residue, changed-octet}
-use Rattle.afp.specs.Numbers.{shortestFrame, longestFrame, badCheck}
+use Rattle.afp.specs.Limits.{minFrame, maxFrame}
+use Rattle.afp.specs.Answers.{badCheck}
 use Rattle.afp.specs.Layout.{octet, checkedLength, checkedPart, receivedCheck}
 use Rattle.afp.specs.Reading.{refusals}
 use Rattle.afp.proofs.Refusals.{envelope-check}
@@ -60,7 +61,7 @@ module _ (f : List ℕ) (i y : ℕ) (o : Octets f) (hy : y < 256) (hi : i < leng
       (changed-octet preset (take i f) (drop (suc i) f) (octet f i) y (lit< tt) (octets-take f i o) (octets-drop f (suc i) o) (o i) hy
       (ap (feedAll preset) (sym (split-at f i 0 hi)) ∙ e ∙ ap (feedAll preset) (set-split f i y hi)))
 
-  module _ (long : shortestFrame ≤ length f) (short : length f ≤ longestFrame) (right : receivedCheck f ≡ checkSequence (checkedPart f)) where
+  module _ (long : minFrame ≤ length f) (short : length f ≤ maxFrame) (right : receivedCheck f ≡ checkSequence (checkedPart f)) where
     abbrev g : List ℕ
     g = set f i y
 

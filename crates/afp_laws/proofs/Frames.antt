@@ -9,7 +9,7 @@ use Rattle.sums.specs.Sum.{headerSum}
 use Rattle.fcs.specs.Fcs.{checkSequence, checkOctets}
 use Rattle.stations.specs.declared.Next.{Next}
 use Rattle.stations.specs.Fields.{stationsOf, nextOffset}
-use Rattle.afp.specs.Numbers.{version}
+use Rattle.afp.specs.Limits.{version}
 use Rattle.afp.specs.Layout.{octet, checkedPart, receivedCheck, variablePart, receivedSum, summedPart}
 use Rattle.afp_write.specs.Frame.{headerLength, withCheck, headerBefore, headerOf, frameOf}
 use Rattle.afp_write.proofs.Buffers.{length-before}

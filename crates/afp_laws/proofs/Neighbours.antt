@@ -13,7 +13,7 @@ use Rattle.fcs.specs.Words.{shiftBits, littleEndian}
 use Rattle.fcs.proofs.Xor.{xor-left}
 use Rattle.fcs.proofs.Register.{Octets, shifts-injective, feeds-lt, feeds-word, feed-++}
 use Rattle.fcs.proofs.Residue.{feeds-injective}
-use Rattle.afp.specs.Numbers.{badCheck}
+use Rattle.afp.specs.Answers.{badCheck}
 use Rattle.afp.specs.Layout.{checkedPart, receivedCheck, receivedSum}
 use Rattle.afp.specs.Meaning.{Meaning, refused, means, meant, meaning}
 use Rattle.afp.proofs.Refusals.{envelope-check}

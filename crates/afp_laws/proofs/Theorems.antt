@@ -22,7 +22,8 @@ use lib.Seq.{length-take-le, take-take}
 use Rattle.common.proofs.Refusals.{Passed}
 use Rattle.sums.specs.Sum.{notCalculated}
 use Rattle.fcs.proofs.Register.{Octets}
-use Rattle.afp.specs.Numbers.{shortestFrame, longestFrame, shortestHeader, longestHeader, longestData, badCheck}
+use Rattle.afp.specs.Limits.{minFrame, maxFrame, minHeader, maxHeader, maxData}
+use Rattle.afp.specs.Answers.{badCheck}
 use Rattle.afp.specs.Layout.{octet, offset, checkedLength, checkedPart, receivedSum}
 use Rattle.afp.specs.Reading.{refusals, readOf}
 use Rattle.afp.specs.Meaning.{Meaning, refused, means, meant, meaning, verdict}
@@ -94,9 +95,9 @@ module _ (f : List ℕ) (m : Meaning) (u : Bool) (e : meaning f ≡ means m u) w
   unfolding meaningOf partsIn
   payload-is = ap (λ (m : Meaning). m .payload) (sym (meaning-is f m u e))
 
-  pub frame-length : (shortestFrame ≤ length f) × (length f ≤ longestFrame)
-      × (shortestHeader ≤ offset f) × (offset f ≤ longestHeader)
-      × (length (m .payload) ≤ longestData)
+  pub frame-length : (minFrame ≤ length f) × (length f ≤ maxFrame)
+      × (minHeader ≤ offset f) × (offset f ≤ maxHeader)
+      × (length (m .payload) ≤ maxData)
   frame-length =
       let d = payload-is in
       let l = length-d f ok in

@@ -16,7 +16,7 @@ use Rattle.stations.specs.IdList.{fieldsOf, allValid}
 use Rattle.stations.proofs.IdList.{fields-end, count-ids, ids-fields}
 use Rattle.stations.proofs.NextField.{nextOf, fields-some, next-number, next-none}
 use Rattle.supplementary.specs.Options.{supplementaryOctets}
-use Rattle.afp.specs.Numbers.{shortestHeader, longestHeader, longestData, firstReserved}
+use Rattle.afp.specs.Limits.{minHeader, maxHeader, maxData, firstReserved}
 use Rattle.afp.specs.Meaning.{Meaning}
 use Rattle.afp_write.specs.Frame.{headerLength, partRefusals, sizeRefusals, writeRefusals}
 use Rattle.afp_write.proofs.Buffers.{length-frame}
@@ -94,9 +94,9 @@ proper-writable m room q long =
         ),
       ),
     ) (
-      le-ltb (headerLength (length s) (length h)) shortestHeader (q .header-long),
+      le-ltb (headerLength (length s) (length h)) minHeader (q .header-long),
       (
-        le-ltb longestHeader (headerLength (length s) (length h)) (q .header-short),
-        (le-ltb longestData (length (m .payload)) (q .data-short), (le-ltb room (headerLength (length s) (length h) + length (m .payload) + 2) fits, tt)),
+        le-ltb maxHeader (headerLength (length s) (length h)) (q .header-short),
+        (le-ltb maxData (length (m .payload)) (q .data-short), (le-ltb room (headerLength (length s) (length h) + length (m .payload) + 2) fits, tt)),
       ),
     )

@@ -9,7 +9,7 @@ use lib.Dec.{leb, eqb}
 use lib.ListN.{length, take, drop}
 use lib.Seq.{take-at, drop-at, take-length}
 use Rattle.afp.specs.Layout.{octet, offset, checkedLength, checkedPart, receivedCheck, variablePart, stationsIn, receivedSum, summedPart, rightHeaderSum, dataLength}
-use Rattle.afp.specs.Numbers.{shortestFrame, longestFrame, shortestHeader, longestHeader, longestData, version, firstReserved}
+use Rattle.afp.specs.Limits.{minFrame, maxFrame, minHeader, maxHeader, maxData, version, firstReserved}
 use Rattle.afp.specs.Reading.{envelopeRefusals, fixedRefusals, stationRefusals, restRefusals, refusals}
 use Rattle.afp_laws.proofs.Frames as frames
 use Rattle.afp_laws.specs.Parts.{Parts, encode, encodeRefusals, partsIn}
@@ -86,17 +86,17 @@ module _ (p : ℕ) (s : List ℕ) (n : ℕ) (h d : List ℕ) (room : ℕ) (ok : 
   unfolding partRefusals
   valid = not-false _ (parts .1 .1 .1 .1 .1 .0)
 
-  low : shortestHeader ≤ headerLength (length s) (length h)
+  low : minHeader ≤ headerLength (length s) (length h)
   unfolding sizeRefusals
-  low = ltb-false (headerLength (length s) (length h)) shortestHeader (sizes .0)
+  low = ltb-false (headerLength (length s) (length h)) minHeader (sizes .0)
 
-  high : headerLength (length s) (length h) ≤ longestHeader
+  high : headerLength (length s) (length h) ≤ maxHeader
   unfolding sizeRefusals
-  high = ltb-false longestHeader (headerLength (length s) (length h)) (sizes .1 .0)
+  high = ltb-false maxHeader (headerLength (length s) (length h)) (sizes .1 .0)
 
-  short : length d ≤ longestData
+  short : length d ≤ maxData
   unfolding sizeRefusals
-  short = ltb-false longestData (length d) (sizes .1 .1 .0)
+  short = ltb-false maxData (length d) (sizes .1 .1 .0)
 
   -- ---- what stands where in the frame
   abbrev x : Next
@@ -160,7 +160,7 @@ module _ (p : ℕ) (s : List ℕ) (n : ℕ) (h d : List ℕ) (room : ℕ) (ok : 
       let a = low in
       let b = high in
       let c = short in
-      (le-ltb (length f) shortestFrame (omega arith), (le-ltb longestFrame (length f) (omega arith), (ap not (eq-eqb (receivedCheck f) (checkSequence (checkedPart f)) check-is), tt)))
+      (le-ltb (length f) minFrame (omega arith), (le-ltb maxFrame (length f) (omega arith), (ap not (eq-eqb (receivedCheck f) (checkSequence (checkedPart f)) check-is), tt)))
 
   fixed-passes : Passed (fixedRefusals f)
   unfolding fixedRefusals
@@ -173,8 +173,8 @@ module _ (p : ℕ) (s : List ℕ) (n : ℕ) (h d : List ℕ) (room : ℕ) (ok : 
         (
           ap (leb firstReserved) protocol-is ∙ lt-leb firstReserved p protocol-low,
           (
-            le-ltb (offset f) shortestHeader (omega arith),
-            (le-ltb longestHeader (offset f) (omega arith), (le-ltb (checkedLength f) (offset f) (omega arith), tt)),
+            le-ltb (offset f) minHeader (omega arith),
+            (le-ltb maxHeader (offset f) (omega arith), (le-ltb (checkedLength f) (offset f) (omega arith), tt)),
           ),
         ),
       )
@@ -210,7 +210,7 @@ module _ (p : ℕ) (s : List ℕ) (n : ℕ) (h d : List ℕ) (room : ℕ) (ok : 
         (
           ap not (or-right (eqb (receivedSum f) notCalculated) (eqb (receivedSum f) (headerSum (summedPart f)))
               (eq-eqb (receivedSum f) (headerSum (summedPart f)) (sum-is ∙ ap headerSum (sym summed-is)))),
-          (le-ltb longestData (dataLength f) (omega arith), tt),
+          (le-ltb maxData (dataLength f) (omega arith), tt),
         ),
       )
 

@@ -5,7 +5,7 @@ use Prim.Native.Nat.{_≤_, _<_}
 use lib.ListN.{length}
 use Rattle.stations.specs.IdList.{fieldsOf, allValid}
 use Rattle.supplementary.specs.Options.{validSupplementary, supplementaryOctets}
-use Rattle.afp.specs.Numbers.{shortestHeader, longestHeader, longestData, firstReserved}
+use Rattle.afp.specs.Limits.{minHeader, maxHeader, maxData, firstReserved}
 use Rattle.afp.specs.Meaning.{Meaning}
 use Rattle.afp_write.specs.Frame.{headerLength}
 
@@ -18,6 +18,6 @@ pub record Proper (m : Meaning) : Type 0 where
   pub next-alone : length (m .ids) ≡ 1 → m .next ≡ 0
   pub next-later : 2 ≤ length (m .ids) → (2 ≤ m .next) × (m .next ≤ length (m .ids))
   pub supplementary-valid : validSupplementary (supplementaryOctets (m .supplementary)) ≡ true
-  pub header-long : shortestHeader ≤ headerLength (length (fieldsOf (m .ids))) (length (supplementaryOctets (m .supplementary)))
-  pub header-short : headerLength (length (fieldsOf (m .ids))) (length (supplementaryOctets (m .supplementary))) ≤ longestHeader
-  pub data-short : length (m .payload) ≤ longestData
+  pub header-long : minHeader ≤ headerLength (length (fieldsOf (m .ids))) (length (supplementaryOctets (m .supplementary)))
+  pub header-short : headerLength (length (fieldsOf (m .ids))) (length (supplementaryOctets (m .supplementary))) ≤ maxHeader
+  pub data-short : length (m .payload) ≤ maxData

@@ -1,9 +1,9 @@
 -- What each function of the writer leaves in the buffer, by what the functions that it calls left there. Assumes nothing.
 use mathlib.Core.Path.{_≡_, sym, ap, ap₂, _∙_}
 use mathlib.Core.List.{List, [], _∷_, _++_, append-assoc}
-use Prim.Native.Nat.{ℕ, _+_, _-_, _/_, _%_, _≤_, _<_}
+use Prim.Native.Nat.{ℕ, _+_, _-_, _/_, _%_, _≤_}
 use native.Mathlib.Omega.{arith}
-use lib.ListN.{length, take, drop, length-append}
+use lib.ListN.{length, take, length-append}
 use lib.Seq.{sets}
 use Rattle.fcs.specs.Fcs.{checkSequence, checkOctets}
 use Rattle.stations.specs.declared.Next.{Next}
@@ -12,7 +12,7 @@ use Rattle.stations.specs.declared.Stations.{Stations}
 use Rattle.stations.specs.Fields.{stationsOf, nextOffset}
 use Rattle.common.specs.Buffer.{withFront}
 use Rattle.common.proofs.Buffer.{take-withFront, sets-withFront, sets-front}
-use Rattle.afp.specs.Numbers.{version}
+use Rattle.afp.specs.Limits.{version}
 use Rattle.afp_write.specs.Frame.{headerLength, withCheck, headerBefore, headerOf, frameOf}
 
 pub length-before : (p : ℕ) (x : Next) (s h : List ℕ) → length (headerBefore p x s h) ≡ 5 + (length s + length h)

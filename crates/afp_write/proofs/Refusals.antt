@@ -15,7 +15,8 @@ use Rattle.common.proofs.FirstRefusal.{first-stop, first-skip, first-passed, gu
 use Rattle.stations.specs.declared.Stations.{Stations}
 use Rattle.stations.specs.Fields.{stationsOf, lacksNext}
 use Rattle.supplementary.specs.Options.{validSupplementary}
-use Rattle.afp.specs.Numbers.{shortestHeader, longestHeader, longestData, firstReserved, badProtocol, badOffset, badStations, badNext, badSupplementary, badData, shortBuffer}
+use Rattle.afp.specs.Limits.{minHeader, maxHeader, maxData, firstReserved}
+use Rattle.afp.specs.Answers.{badProtocol, badOffset, badStations, badNext, badSupplementary, badData, outTooSmall}
 use Rattle.afp_write.specs.Frame.{headerLength, frameOf, partRefusals, sizeRefusals, writeRefusals, refusedWriting, written, writeOf, bufferOf}
 use Rattle.afp_write.specs.declared.Written.{Written}
 
@@ -65,37 +66,37 @@ module _ (s h d room : ℕ) where
   abbrev sizes : ℕ
   sizes = firstRefusal (sizeRefusals s h d room)
 
-  pub size-short : headerLength s h < shortestHeader → badOffset ≡ sizes
+  pub size-short : headerLength s h < minHeader → badOffset ≡ sizes
   unfolding sizeRefusals
-  size-short i = first-stop _ badOffset _ (lt-ltb (headerLength s h) shortestHeader i)
+  size-short i = first-stop _ badOffset _ (lt-ltb (headerLength s h) minHeader i)
 
-  pub size-long : longestHeader < headerLength s h → badOffset ≡ sizes
+  pub size-long : maxHeader < headerLength s h → badOffset ≡ sizes
   unfolding sizeRefusals
   size-long i =
-      first-skip _ badOffset _ badOffset (le-ltb (headerLength s h) shortestHeader (omega arith)) (first-stop _ badOffset _ (lt-ltb longestHeader (headerLength s h) i))
+      first-skip _ badOffset _ badOffset (le-ltb (headerLength s h) minHeader (omega arith)) (first-stop _ badOffset _ (lt-ltb maxHeader (headerLength s h) i))
 
-  module _ (a : shortestHeader ≤ headerLength s h) (b : headerLength s h ≤ longestHeader) where
-    to-data : (v : ℕ) → v ≡ firstRefusal ((ltb longestData d, badData) ∷ (ltb room (headerLength s h + d + 2), shortBuffer) ∷ []) → v ≡ sizes
+  module _ (a : minHeader ≤ headerLength s h) (b : headerLength s h ≤ maxHeader) where
+    to-data : (v : ℕ) → v ≡ firstRefusal ((ltb maxData d, badData) ∷ (ltb room (headerLength s h + d + 2), outTooSmall) ∷ []) → v ≡ sizes
     unfolding sizeRefusals
     to-data v q =
-        first-skip _ badOffset _ v (le-ltb (headerLength s h) shortestHeader a) (first-skip _ badOffset _ v (le-ltb longestHeader (headerLength s h) b) q)
+        first-skip _ badOffset _ v (le-ltb (headerLength s h) minHeader a) (first-skip _ badOffset _ v (le-ltb maxHeader (headerLength s h) b) q)
 
-    pub size-data : longestData < d → badData ≡ sizes
-    size-data i = to-data badData (first-stop _ badData _ (lt-ltb longestData d i))
+    pub size-data : maxData < d → badData ≡ sizes
+    size-data i = to-data badData (first-stop _ badData _ (lt-ltb maxData d i))
 
-    module _ (c : d ≤ longestData) where
-      pub size-room : room < headerLength s h + d + 2 → shortBuffer ≡ sizes
-      size-room i = to-data shortBuffer (first-skip _ badData _ shortBuffer (le-ltb longestData d c) (first-stop _ shortBuffer _ (lt-ltb room (headerLength s h + d + 2) i)))
+    module _ (c : d ≤ maxData) where
+      pub size-room : room < headerLength s h + d + 2 → outTooSmall ≡ sizes
+      size-room i = to-data outTooSmall (first-skip _ badData _ outTooSmall (le-ltb maxData d c) (first-stop _ outTooSmall _ (lt-ltb room (headerLength s h + d + 2) i)))
 
       pub size-done : headerLength s h + d + 2 ≤ room → 0 ≡ sizes
-      size-done i = to-data 0 (first-skip _ badData _ 0 (le-ltb longestData d c) (first-skip _ shortBuffer _ 0 (le-ltb room (headerLength s h + d + 2) i) refl))
+      size-done i = to-data 0 (first-skip _ badData _ 0 (le-ltb maxData d c) (first-skip _ outTooSmall _ 0 (le-ltb room (headerLength s h + d + 2) i) refl))
 
   -- what passed tests of sizes say
   pub sizes-fit : 0 ≡ sizes → (s + h ≤ 248) × (headerLength s h + d + 2 ≤ room)
   unfolding sizeRefusals
   sizes-fit e =
       let q = first-passed (sizeRefusals s h d room) tt (sym e) in
-      let a : headerLength s h ≤ longestHeader = ltb-false longestHeader (headerLength s h) (q .1 .0) in
+      let a : headerLength s h ≤ maxHeader = ltb-false maxHeader (headerLength s h) (q .1 .0) in
       (omega arith, ltb-false room (headerLength s h + d + 2) (q .1 .1 .1 .0))
 
 -- ---- the writer's answers

@@ -18,7 +18,8 @@ use Rattle.stations.specs.declared.Next.{Next}
 use Rattle.stations.specs.declared.Stations.{Stations}
 use Rattle.stations.specs.Fields.{stationsOf, nextOffset, lacksNext}
 use Rattle.supplementary.specs.Options.{validSupplementary}
-use Rattle.afp.specs.Numbers.{shortestHeader, longestHeader, longestData, version, firstReserved, badProtocol, badOffset, badStations, badNext, badSupplementary, badData, shortBuffer}
+use Rattle.afp.specs.Limits.{minHeader, maxHeader, maxData, version, firstReserved}
+use Rattle.afp.specs.Answers.{done, badProtocol, badOffset, badStations, badNext, badSupplementary, badData, outTooSmall}
 use Rattle.afp_write.specs.declared.Written.{Written}
 
 -- ---- the frame
@@ -56,10 +57,10 @@ partRefusals p s r n h =
 -- header, data and buffer; s, h, d are the lengths of the parts, room that of the buffer
 unfoldable pub sizeRefusals : (s h d room : ℕ) → List Refusal
 sizeRefusals s h d room =
-    (ltb (headerLength s h) shortestHeader, badOffset)
-    ∷ (ltb longestHeader (headerLength s h), badOffset)
-    ∷ (ltb longestData d, badData)
-    ∷ (ltb room (headerLength s h + d + 2), shortBuffer)
+    (ltb (headerLength s h) minHeader, badOffset)
+    ∷ (ltb maxHeader (headerLength s h), badOffset)
+    ∷ (ltb maxData d, badData)
+    ∷ (ltb room (headerLength s h + d + 2), outTooSmall)
     ∷ []
 
 -- "AFP writer 33, 35, 36, 38, 34, 40, 41"
@@ -72,7 +73,7 @@ abbrev pub refusedWriting : ℕ → Written
 refusedWriting k = record { number = k; length = 0 }
 
 abbrev pub written : ℕ → Written
-written k = record { number = 0; length = k }
+written k = record { number = done; length = k }
 
 unfoldable pub writeOf : (p : ℕ) (s : List ℕ) (n : ℕ) (h d out : List ℕ) → Written
 writeOf p s n h d out = guarded (writeRefusals p s n h d (length out)) refusedWriting (written (length (frameOf p s n h d)))

@@ -15,8 +15,6 @@ use stations::Stations;
 // The longest station fields, and the longest supplementary header, that any header has room for.
 const MOST_VARIABLE: usize = 248;
 
-const SHORT_BUFFER: u8 = 41;
-
 // How many octets were written, or the number of the refusal.
 #[repr(C)]
 pub struct Written {
@@ -92,7 +90,7 @@ fn put_frame(p: u8, x: Next, s: &[u8], h: &[u8], d: &[u8], out: &mut [u8]) -> us
     put_check(out, k)
 }
 
-// The refusal of protocol, station fields, next ID or supplementary header, or 0.
+// The refusal of protocol, station fields, next ID or supplementary header, or DONE.
 fn part_refusal(p: u8, s: &[u8], r: Stations, n: usize, h: &[u8]) -> u8
     ensures { λ v. ⌜ v ≡ firstRefusal (partRefusals p (now (s .entry)) r n (now (h .entry))) ⌝ }
 {
@@ -115,12 +113,12 @@ fn part_refusal(p: u8, s: &[u8], r: Stations, n: usize, h: &[u8]) -> u8
         return afp::BAD_NEXT;
     }
     if supplementary::valid_supplementary(h) {
-        return 0;
+        return afp::DONE;
     }
     afp::BAD_SUPPLEMENTARY
 }
 
-// The refusal of sizes, or 0. Either of the two parts alone can be too long, so that their sum is not taken before.
+// The refusal of sizes, or DONE. Either of the two parts alone can be too long, so that their sum is not taken before.
 fn size_refusal(s: usize, h: usize, d: usize, room: usize) -> u8
     ensures { λ v. ⌜ v ≡ firstRefusal (sizeRefusals s h d room) ⌝ }
 {
@@ -131,20 +129,20 @@ fn size_refusal(s: usize, h: usize, d: usize, room: usize) -> u8
         return afp::BAD_OFFSET;
     }
     let n = 6 + (s + h);
-    if n < afp::SHORTEST_HEADER {
+    if n < afp::MIN_HEADER {
         return afp::BAD_OFFSET;
     }
-    if afp::LONGEST_HEADER < n {
+    if afp::MAX_HEADER < n {
         return afp::BAD_OFFSET;
     }
-    if afp::LONGEST_DATA < d {
+    if afp::MAX_DATA < d {
         return afp::BAD_DATA;
     }
     let m = n + d + 2;
     if room < m {
-        return SHORT_BUFFER;
+        return afp::OUT_TOO_SMALL;
     }
-    0
+    afp::DONE
 }
 
 fn refuse(number: u8) -> Written
@@ -164,17 +162,17 @@ pub fn write(p: u8, s: &[u8], n: usize, h: &[u8], d: &[u8], out: &mut [u8]) -> W
 {
     let r = stations::parse(s, 0, n);
     let a = part_refusal(p, s, r, n, h);
-    if a != 0 {
+    if a != afp::DONE {
         return refuse(a);
     }
     let b = size_refusal(s.len(), h.len(), d.len(), out.len());
-    if b != 0 {
+    if b != afp::DONE {
         return refuse(b);
     }
     let x = r.next;
     let count = put_frame(p, x, s, h, d, out);
     Written {
-        number: 0,
+        number: afp::DONE,
         length: count,
     }
 }

@@ -1,7 +1,7 @@
 //! The QAFT chunk reader: single calls from states of every kind, and lines handed over in random portions.
 use super::make::octets;
 use super::tally::{hex, Out, Tally};
-use crate::archive;
+use crate::archive::{self, RawReader};
 use second::qaft;
 use second::reader::{self, Answer, State, MANY, STORE};
 use second::rng::Rng;
@@ -41,12 +41,46 @@ fn state(rng: &Rng) -> State {
 fn one(from: State, portion: &[u8], room: usize, seed: u8, tally: &mut Tally) -> (State, Answer) {
     let (mut ours, mut archive) = (Out::new(room, seed), Out::new(room, seed));
     let given = reader::read(from, portion, ours.room());
-    let by_archive = archive::qaft_read(from, portion, archive.room());
+    let by_archive = archive::qaft_read(from.into(), portion, archive.room());
     tally.number(given.1.number);
-    tally.input(&(given, ours), &(by_archive, archive), || {
-        format!("{from:X?}, room {room}, portion {}", hex(portion))
-    });
+    tally.input(
+        &((RawReader::from(given.0), given.1), ours),
+        &(by_archive, archive),
+        || format!("{from:X?}, room {room}, portion {}", hex(portion)),
+    );
     given
+}
+
+/// Every pair of numbers for whether a flag has come and whether a 7D waits: any but 0 stands for true. What is refused
+/// comes back as it is, all else as 0 and 1.
+fn numbers_for_bools(rng: &Rng, tally: &mut Tally) {
+    let portion = [0x5E, 0x82, qaft::FLAG, 0x41];
+    for pair in 0..=u16::MAX {
+        let [synced, pending] = pair.to_be_bytes();
+        let from = State {
+            level: 0,
+            flag: synced != 0,
+            pending: pending != 0,
+            count: rng.pick(&[0, 0, 2]),
+            sum: 0,
+        };
+        let raw = RawReader {
+            synced,
+            pending,
+            ..from.into()
+        };
+        let (mut ours, mut archive) = (Out::new(STORE, 1), Out::new(STORE, 1));
+        let (next, answer) = reader::read(from, &portion, ours.room());
+        let later = match answer.number {
+            5 => raw,
+            _ => next.into(),
+        };
+        let by_archive = archive::qaft_read(raw, &portion, archive.room());
+        tally.number(answer.number);
+        tally.input(&((later, answer), ours), &(by_archive, archive), || {
+            format!("{raw:X?}, portion {}", hex(&portion))
+        });
+    }
 }
 
 /// A line of frames, damaged frames, noise and overlong segments.
@@ -79,7 +113,7 @@ fn in_portions(rng: &Rng, tally: &mut Tally) {
     let line = line(rng);
     let level = (rng.below(2)) as u8;
     let mut now = State::fresh(level);
-    tally.input(&now, &archive::qaft_fresh(level), || {
+    tally.input(&RawReader::from(now), &archive::qaft_fresh(level), || {
         format!("fresh {level}")
     });
     let mut at = 0;
@@ -97,6 +131,7 @@ fn in_portions(rng: &Rng, tally: &mut Tally) {
 }
 
 pub fn compare(rng: &Rng, count: u64, tally: &mut Tally) {
+    numbers_for_bools(rng, tally);
     for _ in 0..count / 2 {
         let portion = match rng.below(4) {
             0 => line(rng),

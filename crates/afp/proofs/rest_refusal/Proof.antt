@@ -5,7 +5,8 @@ use Prim.Native.Nat.{ℕ}
 use lib.Dec.{ltb}
 use lib.Seq.{length-take-le}
 use Rattle.common.specs.FirstRefusal.{firstRefusal}
-use Rattle.afp.specs.Numbers.{longestData, badData}
+use Rattle.afp.specs.Limits.{maxData}
+use Rattle.afp.specs.Answers.{badData}
 use Rattle.afp.specs.Layout.{dataLength}
 use Rattle.afp.specs.Reading.{restRefusals}
 use Rattle.afp.proofs.Refusals.{rest-supplementary, rest-sum, rest-last, data-long, data-fits}
@@ -57,7 +58,7 @@ sub-n-2 c = search needs
 abbrev given : tie.Then2 → tie.Start
 given c = c .before .before .before .before .before .before .before .before .before .before
 
-last : (c : tie.Then2) (v : ℕ) → v ≡ cond (ltb longestData (dataLength (given c .args .f .now))) badData 0
+last : (c : tie.Then2) (v : ℕ) → v ≡ cond (ltb maxData (dataLength (given c .args .f .now))) badData 0
     → v ≡ firstRefusal (restRefusals (given c .args .f .now) (given c .args .end))
 last c =
     let args = given c .args in

@@ -6,7 +6,7 @@ use lib.Dec.{eqb}
 use borrow.Author.Tests.{eq-eqb, ne-eqb}
 use Rattle.common.specs.FirstRefusal.{firstRefusal}
 use Rattle.common.proofs.FirstRefusal.{first-stop, first-skip}
-use Rattle.afp.specs.Numbers.{badNextSum}
+use Rattle.afp.specs.Answers.{badNextSum}
 use Rattle.afp.specs.Layout.{octet}
 use Rattle.afp.specs.Reading.{stationRefusals}
 use Rattle.afp.proofs.Refusals.{station-malformed, station-offset, station-lacks, station-last}

@@ -4,7 +4,7 @@ use mathlib.Core.Path.{_≡_, refl, ap}
 use mathlib.Core.Bool.{cond, not}
 use Rattle.common.specs.FirstRefusal.{firstRefusal}
 use Rattle.common.proofs.FirstRefusal.{first-stop, first-skip}
-use Rattle.afp.specs.Numbers.{badSupplementary}
+use Rattle.afp.specs.Answers.{badSupplementary}
 use Rattle.afp_write.specs.Frame.{partRefusals}
 use Rattle.afp_write.proofs.Refusals.{part-protocol, part-stations, part-end, part-next, part-lacks, part-last}
 use native.Mathlib.Omega.{arith}

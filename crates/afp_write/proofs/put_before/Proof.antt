@@ -2,7 +2,7 @@
 use mathlib.Core.Path.{ap}
 use mathlib.Core.List.{[], _∷_}
 use Prim.Native.Nat.{ℕ, _+_}
-use Rattle.afp.specs.Numbers.{version}
+use Rattle.afp.specs.Limits.{version}
 use lib.ListN.{length}
 use Rattle.afp_write.proofs.Buffers.{before-put}
 use native.Mathlib.Omega.{arith}

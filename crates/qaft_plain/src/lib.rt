@@ -1,0 +1,107 @@
+// The QAFT reader in plain numbers, for C programs: whether a flag has come and whether a 7D waits are numbers, and any number may come.
+// A call is the reader's of the crate qaft_read; its answer is in plain numbers too.
+ghost use mathlib.Core.Path.{_≡_};
+ghost use Rattle.qaft_read.specs.State.{fresh};
+ghost use Rattle.qaft_read.specs.Read.{read};
+ghost use Rattle.qaft_plain.specs.Plain.{truth, bit, readerOf, plainOf, later, answerOf};
+use qaft_read::Reader;
+use qaft_report::Outcome;
+
+#[repr(C)]
+pub struct PlainReader {
+    pub level: u8,
+    pub synced: u8,
+    pub pending: u8,
+    pub count: usize,
+    pub sum: u8,
+}
+
+// The report or refusal, the octets taken, the data octets shown, the state for the next call.
+#[repr(C)]
+pub struct PlainAnswer {
+    pub number: u8,
+    pub taken: usize,
+    pub length: usize,
+    pub reader: PlainReader,
+}
+
+impl PlainReader {
+    // The state before any flag.
+    pub fn fresh(level: u8) -> Self
+        ensures { λ r. ⌜ r ≡ plainOf (fresh level) ⌝ }
+    {
+        plain(Reader::fresh(level))
+    }
+
+    // Reads a chunk up to its first report.
+    pub fn read(self, chunk: &[u8], buffer: &mut [u8]) -> PlainAnswer
+        ensures { λ r. ⌜ r ≡ answerOf self (read (readerOf self) (now (chunk .entry)) (now (buffer .entry)) .answer) ⌝ }
+        ensures { λ _. ⌜ now (buffer .exit) ≡ read (readerOf self) (now (chunk .entry)) (now (buffer .entry)) .buffer ⌝ }
+    {
+        let a = self.reader().read(chunk, buffer);
+        let outcome = a.outcome;
+        let next = a.reader;
+        PlainAnswer {
+            number: outcome.number(),
+            taken: a.taken,
+            length: outcome.data_length(),
+            reader: self.later(outcome, next),
+        }
+    }
+
+    // The state that the numbers say.
+    fn reader(self) -> Reader
+        ensures { λ r. ⌜ r ≡ readerOf self ⌝ }
+    {
+        Reader {
+            level: self.level,
+            synced: truth(self.synced),
+            pending: truth(self.pending),
+            count: self.count,
+            sum: self.sum,
+        }
+    }
+
+    // The state given back: after a refusal the very numbers that came, otherwise those of the next state.
+    fn later(self, outcome: Outcome, next: Reader) -> PlainReader
+        ensures { λ r. ⌜ r ≡ later self outcome next ⌝ }
+    {
+        let numbers = plain(next);
+        match outcome {
+            Outcome::Refused(_) => self,
+            Outcome::Reported(_) => numbers,
+            Outcome::UsedUp => numbers,
+        }
+    }
+}
+
+// Any number but 0 stands for true.
+fn truth(n: u8) -> bool
+    ensures { λ r. ⌜ r ≡ truth n ⌝ }
+{
+    if n == 0 {
+        return false;
+    }
+    true
+}
+
+fn bit(b: bool) -> u8
+    ensures { λ r. ⌜ r ≡ bit b ⌝ }
+{
+    if b {
+        return 1;
+    }
+    0
+}
+
+fn plain(r: Reader) -> PlainReader
+    ensures { λ c. ⌜ c ≡ plainOf r ⌝ }
+{
+    PlainReader {
+        level: r.level,
+        synced: bit(r.synced),
+        pending: bit(r.pending),
+        count: r.count,
+        sum: r.sum,
+    }
+}

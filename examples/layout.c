@@ -1,0 +1,77 @@
+/*
+ * Sizes and offsets of the header's structs on a machine with 64-bit size_t, as the crates' structs have them, and what the size
+ * macros come to. It is built as C and as C++, and does nothing. Written by include/numbers.
+ */
+#include "hasfandur.h"
+
+#include <assert.h>
+#include <stddef.h>
+
+#define FIELD(type, field, at, size) \
+    static_assert(offsetof(type, field) == (at) && sizeof(((type *)0)->field) == (size), #type "." #field)
+
+static_assert(sizeof(hasfandur_written) == 16, "hasfandur_written");
+FIELD(hasfandur_written, number, 0, 1);
+FIELD(hasfandur_written, length, 8, 8);
+
+static_assert(sizeof(hasfandur_qaft_reader) == 24, "hasfandur_qaft_reader");
+FIELD(hasfandur_qaft_reader, level, 0, 1);
+FIELD(hasfandur_qaft_reader, synced, 1, 1);
+FIELD(hasfandur_qaft_reader, pending, 2, 1);
+FIELD(hasfandur_qaft_reader, count, 8, 8);
+FIELD(hasfandur_qaft_reader, sum, 16, 1);
+
+static_assert(sizeof(hasfandur_qaft_answer) == 48, "hasfandur_qaft_answer");
+FIELD(hasfandur_qaft_answer, number, 0, 1);
+FIELD(hasfandur_qaft_answer, taken, 8, 8);
+FIELD(hasfandur_qaft_answer, length, 16, 8);
+FIELD(hasfandur_qaft_answer, reader, 24, 24);
+
+static_assert(sizeof(hasfandur_dlc_queued) == 264, "hasfandur_dlc_queued");
+FIELD(hasfandur_dlc_queued, length, 0, 8);
+FIELD(hasfandur_dlc_queued, octets, 8, 256);
+
+static_assert(sizeof(hasfandur_dlc_queue) == 1856, "hasfandur_dlc_queue");
+FIELD(hasfandur_dlc_queue, count, 0, 8);
+FIELD(hasfandur_dlc_queue, slots, 8, 1848);
+
+static_assert(sizeof(hasfandur_dlc_link) == 1872, "hasfandur_dlc_link");
+FIELD(hasfandur_dlc_link, state, 0, 1);
+FIELD(hasfandur_dlc_link, queue, 8, 1856);
+FIELD(hasfandur_dlc_link, base, 1864, 1);
+FIELD(hasfandur_dlc_link, expected, 1865, 1);
+
+static_assert(sizeof(hasfandur_dlc_answer) == 72, "hasfandur_dlc_answer");
+FIELD(hasfandur_dlc_answer, number, 0, 1);
+FIELD(hasfandur_dlc_answer, upper_reset, 1, 1);
+FIELD(hasfandur_dlc_answer, delivered, 2, 1);
+FIELD(hasfandur_dlc_answer, sent, 8, 8);
+FIELD(hasfandur_dlc_answer, lengths, 16, 56);
+
+static_assert(sizeof(hasfandur_dlc_outcome) == 1944, "hasfandur_dlc_outcome");
+FIELD(hasfandur_dlc_outcome, link, 0, 1872);
+FIELD(hasfandur_dlc_outcome, answer, 1872, 72);
+
+static_assert(sizeof(hasfandur_part) == 16, "hasfandur_part");
+FIELD(hasfandur_part, place, 0, 8);
+FIELD(hasfandur_part, size, 8, 8);
+
+static_assert(sizeof(hasfandur_reading) == 80, "hasfandur_reading");
+FIELD(hasfandur_reading, number, 0, 1);
+FIELD(hasfandur_reading, protocol, 1, 1);
+FIELD(hasfandur_reading, stations, 8, 16);
+FIELD(hasfandur_reading, ids, 24, 8);
+FIELD(hasfandur_reading, next, 32, 8);
+FIELD(hasfandur_reading, supplementary, 40, 16);
+FIELD(hasfandur_reading, payload, 56, 16);
+FIELD(hasfandur_reading, unchecked, 72, 1);
+
+static_assert(HASFANDUR_QAFT_FRAME_SIZE(HASFANDUR_QAFT_MAX_DATA) == HASFANDUR_QAFT_MAX_FRAME, "longest QAFT frame");
+static_assert(HASFANDUR_DLC_PACKET_SIZE(HASFANDUR_DLC_MAX_PAYLOAD) == HASFANDUR_DLC_MAX_PACKET, "longest packet");
+static_assert(HASFANDUR_DLC_SLOTS * HASFANDUR_DLC_MAX_PACKET == HASFANDUR_DLC_REPLY, "reply");
+static_assert(HASFANDUR_AFP_FRAME_SIZE(HASFANDUR_AFP_MIN_HEADER - 6, 0, 0) == HASFANDUR_AFP_MIN_FRAME, "shortest AFP frame");
+
+int main(void)
+{
+    return 0;
+}

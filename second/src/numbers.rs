@@ -1,0 +1,209 @@
+//! The numbers of include/hasfandur.h against this program's: for each number given back an input that the papers give it for,
+//! for each size the constant here, for each kind of packet one that this program sends. No constant of the header may be left out.
+use crate::afp::{self, check_sequence};
+use crate::link::{self, Link, Mode};
+use crate::qaft;
+use crate::reader::{self, State};
+use std::collections::BTreeMap;
+
+/// The constants of the header's enums and its plain macros, by what stands behind HASFANDUR_.
+fn header() -> BTreeMap<String, usize> {
+    let text = include_str!("../../include/hasfandur.h");
+    let mut found = BTreeMap::new();
+    for line in text.lines() {
+        let words: Vec<&str> = line.split_whitespace().collect();
+        let (name, number) = match words[..] {
+            ["#define", name, number, ..] => (name, number),
+            [name, "=", number, ..] => (name, number.trim_end_matches(',')),
+            _ => continue,
+        };
+        let number = match number.strip_prefix("0x") {
+            Some(digits) => usize::from_str_radix(digits, 16).ok(),
+            None => number.parse().ok(),
+        };
+        if let (Some(name), Some(number)) = (name.strip_prefix("HASFANDUR_"), number) {
+            found.insert(name.to_owned(), number);
+        }
+    }
+    found.remove("VERSION_NUMBER");
+    found
+}
+
+fn qaft_numbers() -> Vec<(&'static str, usize)> {
+    let write = |level, length, room: usize| {
+        qaft::write(level, false, &vec![0; length], &mut vec![0; room]).number
+    };
+    let read = |state, portion: &[u8], room: usize| {
+        reader::read(state, portion, &mut vec![0; room]).1.number
+    };
+    let line = |segment: &[u8]| {
+        let flag = &[qaft::FLAG][..];
+        read(
+            State::fresh(0),
+            &[flag, segment, flag].concat(),
+            reader::STORE,
+        )
+    };
+    let unsynced = State {
+        count: 1,
+        ..State::fresh(0)
+    };
+    [
+        ("DONE", write(0, 1, 4)),
+        ("QAFT_NO_DATA", write(0, 0, 4)),
+        ("QAFT_DATA_TOO_LONG", write(0, qaft::MAX_DATA + 1, 0)),
+        ("QAFT_OUT_TOO_SMALL", write(0, 1, 3)),
+        (
+            "QAFT_BUFFER_TOO_SMALL",
+            read(State::fresh(0), &[], reader::STORE - 1),
+        ),
+        ("QAFT_BAD_STATE", read(unsynced, &[], reader::STORE)),
+        ("QAFT_BAD_LEVEL", write(2, 1, 4)),
+        ("QAFT_FRAME", line(&[0x41, 0xBF])),
+        ("QAFT_ABORTED", line(&[0x10, qaft::ESCAPE])),
+        ("QAFT_LONG", line(&[0; reader::MANY])),
+        ("QAFT_SHORT", line(&[0])),
+        ("QAFT_BAD_CHECK", line(&[0x41, 0xBE])),
+        ("QAFT_USED_UP", line(&[])),
+    ]
+    .map(|(name, number)| (name, number.into()))
+    .to_vec()
+}
+
+/// An open link with so many payloads queued.
+fn open(queued: usize) -> Link {
+    Link {
+        mode: if queued == 0 { Mode::Data } else { Mode::Wait },
+        queue: vec![vec![]; queued],
+        ..Link::fresh()
+    }
+}
+
+fn link_numbers() -> Vec<(&'static str, usize)> {
+    let payload = |link: Link, length| {
+        link.payload(&vec![0; length], &mut [0; link::REPLY])
+            .1
+            .number
+    };
+    let packet = |packet: &[u8]| open(0).packet(packet, &mut [0; link::REPLY]).1.number;
+    let ill_formed = Link {
+        mode: Mode::Wait,
+        ..Link::fresh()
+    };
+    [
+        ("DLC_NOT_OPEN", payload(Link::fresh(), 0)),
+        ("DLC_PAYLOAD_TOO_LONG", payload(open(0), link::PAYLOAD + 1)),
+        ("DLC_QUEUE_FULL", payload(open(link::QUEUE), 0)),
+        ("DLC_BAD_PACKET", packet(&[])),
+        ("DLC_NO_ENTRY", packet(&[0x20])),
+        ("DLC_OTHER_NUMBER", packet(&[0x41])),
+        (
+            "DLC_REPLY_TOO_SMALL",
+            open(0).start(&mut [0; link::REPLY - 1]).1.number,
+        ),
+        ("DLC_BAD_LINK", payload(ill_formed, 0)),
+    ]
+    .map(|(name, number)| (name, number.into()))
+    .to_vec()
+}
+
+/// The first octets of what this program sends, and its modes in the paper's order.
+fn packets_and_states() -> Vec<(&'static str, usize)> {
+    let first = |event: &dyn Fn(&mut [u8])| {
+        let mut reply = [0; link::REPLY];
+        event(&mut reply);
+        usize::from(reply[0])
+    };
+    let opening = Link {
+        mode: Mode::Reset,
+        ..Link::fresh()
+    };
+    let sends =
+        |link: &Link, packet: &[u8]| first(&|reply| drop(link.clone().packet(packet, reply)));
+    vec![
+        (
+            "DLC_RESET",
+            first(&|reply| drop(opening.clone().timer(reply))),
+        ),
+        ("DLC_RESET_ACK", sends(&open(0), &[0x10])),
+        ("DLC_DATA", first(&|reply| drop(open(1).timer(reply)))),
+        ("DLC_DACK", sends(&open(0), &[0x41])),
+        ("DLC_STATE_IDLE", Mode::Idle as usize),
+        ("DLC_STATE_RESET", Mode::Reset as usize),
+        ("DLC_STATE_DATA", Mode::Data as usize),
+        ("DLC_STATE_WAIT", Mode::Wait as usize),
+    ]
+}
+
+/// The number for a frame of these octets and their check octets.
+fn afp_number(octets: &[u8]) -> u8 {
+    let check = check_sequence(octets).to_le_bytes();
+    afp::read(&[octets, &check].concat()).number
+}
+
+/// The broadcast that the scope paper works out, with one octet of its header changed.
+fn afp_changed(place: usize, octet: u8) -> u8 {
+    let mut header = *b"\xFF\x01\xF0\x0C\x00\x04AB1C\x00\xF9";
+    header[place] = octet;
+    afp_number(&header)
+}
+
+fn afp_numbers() -> Vec<(&'static str, usize)> {
+    let write =
+        |room: usize| afp::write(0xF0, b"\x04AB1C\0", 0, b"", b"", &mut vec![0; room]).number;
+    let long = [
+        &b"\xFF\x01\xF0\x0C\x00\x04AB1C\x00\xF9"[..],
+        &[0; afp::MAX_DATA + 1],
+    ]
+    .concat();
+    [
+        ("AFP_BAD_LENGTH", afp::read(&[]).number),
+        ("AFP_BAD_CHECK", afp::read(&[0; 14]).number),
+        ("AFP_BAD_VERSION", afp_changed(1, 2)),
+        ("AFP_BAD_PROTOCOL", afp_changed(2, 0xFE)),
+        ("AFP_BAD_OFFSET", afp_changed(3, 0x0D)),
+        ("AFP_BAD_STATIONS", afp_changed(6, b'a')),
+        ("AFP_BAD_NEXT", afp_changed(4, 5)),
+        ("AFP_BAD_NEXT_SUM", afp_changed(0, 0)),
+        (
+            "AFP_BAD_SUPPLEMENTARY",
+            afp_number(b"\xFF\x01\xF0\x0D\x00\x04AB1C\x00\x01\x00"),
+        ),
+        ("AFP_BAD_HEADER_SUM", afp_changed(11, 0xF8)),
+        ("AFP_BAD_DATA", afp_number(&long)),
+        ("AFP_OUT_TOO_SMALL", write(13)),
+    ]
+    .map(|(name, number)| (name, number.into()))
+    .to_vec()
+}
+
+fn sizes() -> Vec<(&'static str, usize)> {
+    vec![
+        ("QAFT_MAX_DATA", qaft::MAX_DATA),
+        ("QAFT_MAX_SEGMENT", reader::STORE),
+        ("QAFT_MAX_FRAME", qaft::MAX_FRAME),
+        ("DLC_MAX_PAYLOAD", link::PAYLOAD),
+        ("DLC_MAX_PACKET", link::PAYLOAD + 1),
+        ("DLC_SLOTS", link::QUEUE),
+        ("DLC_REPLY", link::REPLY),
+        ("AFP_MIN_FRAME", afp::MIN_FRAME),
+        ("AFP_MAX_FRAME", afp::MAX_FRAME),
+        ("AFP_MIN_HEADER", afp::MIN_HEADER),
+        ("AFP_MAX_HEADER", afp::MAX_HEADER),
+        ("AFP_MAX_DATA", afp::MAX_DATA),
+    ]
+}
+
+#[test]
+fn numbers_of_the_header() {
+    let mut ours = qaft_numbers();
+    ours.extend(link_numbers());
+    ours.extend(packets_and_states());
+    ours.extend(afp_numbers());
+    ours.extend(sizes());
+    let ours: BTreeMap<String, usize> = ours
+        .into_iter()
+        .map(|(name, number)| (name.to_owned(), number))
+        .collect();
+    assert_eq!(header(), ours);
+}
