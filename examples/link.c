@@ -12,7 +12,7 @@
 typedef struct end {
     const char *name;
     hasfandur_dlc_link link;
-    uint8_t reply[HASFANDUR_DLC_REPLY + 1];
+    uint8_t reply[HASFANDUR_DLC_REPLY_SIZE + 1];
 } end;
 
 /* What a link holds, free slots left out. */
@@ -43,7 +43,7 @@ static void print_packets(const hasfandur_dlc_answer *answer, const uint8_t *rep
     for (size_t i = answer->sent; i < HASFANDUR_DLC_SLOTS; i++) {
         printf("%s", answer->lengths[i] == 0 ? "" : ", A LENGTH TOO MANY");
     }
-    printf(", the rest %s", untouched(reply, at, HASFANDUR_DLC_REPLY + 1) ? "as before" : "CHANGED");
+    printf(", the rest %s", untouched(reply, at, HASFANDUR_DLC_REPLY_SIZE + 1) ? "as before" : "CHANGED");
 }
 
 /* Takes what an event gave back, and prints it. */
@@ -60,25 +60,25 @@ static void take(end *e, const char *event, hasfandur_dlc_outcome outcome)
 static void start(end *e)
 {
     memset(e->reply, UNTOUCHED, sizeof e->reply);
-    take(e, "start", hasfandur_dlc_start(e->link, e->reply, HASFANDUR_DLC_REPLY));
+    take(e, "start", hasfandur_dlc_start(e->link, e->reply, HASFANDUR_DLC_REPLY_SIZE));
 }
 
 static void timer(end *e)
 {
     memset(e->reply, UNTOUCHED, sizeof e->reply);
-    take(e, "timer", hasfandur_dlc_timer(e->link, e->reply, HASFANDUR_DLC_REPLY));
+    take(e, "timer", hasfandur_dlc_timer(e->link, e->reply, HASFANDUR_DLC_REPLY_SIZE));
 }
 
 static void payload(end *e, const uint8_t *octets, size_t length)
 {
     memset(e->reply, UNTOUCHED, sizeof e->reply);
-    take(e, "payload", hasfandur_dlc_payload(e->link, octets, length, e->reply, HASFANDUR_DLC_REPLY));
+    take(e, "payload", hasfandur_dlc_payload(e->link, octets, length, e->reply, HASFANDUR_DLC_REPLY_SIZE));
 }
 
 static void arrival(end *e, const uint8_t *packet, size_t length)
 {
     memset(e->reply, UNTOUCHED, sizeof e->reply);
-    take(e, "arrival", hasfandur_dlc_arrival(e->link, packet, length, e->reply, HASFANDUR_DLC_REPLY));
+    take(e, "arrival", hasfandur_dlc_arrival(e->link, packet, length, e->reply, HASFANDUR_DLC_REPLY_SIZE));
 }
 
 static end fresh(const char *name)
@@ -148,7 +148,7 @@ static void restart(void)
 static void refusals(void)
 {
     static const uint8_t long_payload[HASFANDUR_DLC_MAX_PAYLOAD + 1] = {0};
-    const size_t small = HASFANDUR_DLC_REPLY - 1;
+    const size_t small = HASFANDUR_DLC_REPLY_SIZE - 1;
     end e = fresh("refused");
     memset(e.reply, UNTOUCHED, sizeof e.reply);
     e.link.state = HASFANDUR_DLC_STATE_WAIT + 1;

@@ -81,7 +81,7 @@ enum hasfandur_number {
 #define HASFANDUR_DLC_MAX_PAYLOAD 256 /* a DLC payload, which may be empty */
 #define HASFANDUR_DLC_MAX_PACKET 257 /* a DLC packet */
 #define HASFANDUR_DLC_SLOTS 7 /* payloads that a link's queue holds */
-#define HASFANDUR_DLC_REPLY 1799 /* the link's `reply`, at least: a whole queue of the longest packets */
+#define HASFANDUR_DLC_REPLY_SIZE 1799 /* the link's `reply`, at least: a whole queue of the longest packets */
 #define HASFANDUR_AFP_MIN_FRAME 14 /* the shortest AFP frame */
 #define HASFANDUR_AFP_MAX_FRAME 2560 /* the longest; an `out` that has room for every AFP frame */
 #define HASFANDUR_AFP_MIN_HEADER 12 /* the shortest AFP header */
@@ -234,7 +234,7 @@ HASFANDUR_MUST_USE hasfandur_dlc_link hasfandur_dlc_fresh(void);
  * sent stand one after another at the front of `reply`; its other octets are as before. `reply` is lent to every event.
  *
  * Refusals, the first that applies: HASFANDUR_DLC_BAD_LINK (not well formed), HASFANDUR_DLC_REPLY_TOO_SMALL (under
- * HASFANDUR_DLC_REPLY octets, also where nothing is sent), then those named at each event. A refusal gives the very link
+ * HASFANDUR_DLC_REPLY_SIZE octets, also where nothing is sent), then those named at each event. A refusal gives the very link
  * back that came, sends nothing and writes nothing. Otherwise HASFANDUR_DONE, or in one case HASFANDUR_DLC_OTHER_NUMBER.
  *
  * Start: HASFANDUR_DLC_STATE_IDLE goes to HASFANDUR_DLC_STATE_RESET; nothing is sent before the timer. HASFANDUR_DLC_NO_ENTRY

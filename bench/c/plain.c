@@ -82,7 +82,7 @@ struct plain_answer plain_qaft_read(struct plain_reader r, const uint8_t *chunk,
 hasfandur_dlc_outcome plain_dlc_timer(hasfandur_dlc_link link, uint8_t *reply, size_t reply_length)
 {
     hasfandur_dlc_outcome outcome = {.link = link};
-    if (reply_length < HASFANDUR_DLC_REPLY) {
+    if (reply_length < HASFANDUR_DLC_REPLY_SIZE) {
         outcome.answer.number = HASFANDUR_DLC_REPLY_TOO_SMALL;
         return outcome;
     }

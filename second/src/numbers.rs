@@ -185,7 +185,7 @@ fn sizes() -> Vec<(&'static str, usize)> {
         ("DLC_MAX_PAYLOAD", link::PAYLOAD),
         ("DLC_MAX_PACKET", link::PAYLOAD + 1),
         ("DLC_SLOTS", link::QUEUE),
-        ("DLC_REPLY", link::REPLY),
+        ("DLC_REPLY_SIZE", link::REPLY),
         ("AFP_MIN_FRAME", afp::MIN_FRAME),
         ("AFP_MAX_FRAME", afp::MAX_FRAME),
         ("AFP_MIN_HEADER", afp::MIN_HEADER),

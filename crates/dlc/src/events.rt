@@ -108,7 +108,7 @@ impl Link {
         ensures { λ r. ⌜ r ≡ guarded (callRefusals (view self) room) (λ n. n) done ⌝ }
     {
         if self.well_formed() {
-            if room < Link::REPLY {
+            if room < Link::REPLY_SIZE {
                 REPLY_TOO_SMALL
             } else {
                 DONE

@@ -77,7 +77,7 @@ impl Link {
 
     pub const MAX_PAYLOAD: usize = dlc_packet::MAX_PAYLOAD;
 
-    pub const REPLY: usize = Queue::REPLY;
+    pub const REPLY_SIZE: usize = Queue::REPLY_SIZE;
 
     // A fresh link.
     pub fn new() -> Self

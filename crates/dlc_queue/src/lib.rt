@@ -32,7 +32,7 @@ impl Queue {
     pub const SLOTS: usize = 7;
 
     // Octets that all slots take as DATA packets: what a reply buffer must have.
-    pub const REPLY: usize = Queue::SLOTS * (MAX_PAYLOAD + 1);
+    pub const REPLY_SIZE: usize = Queue::SLOTS * (MAX_PAYLOAD + 1);
 
     // An empty queue.
     pub fn new() -> Self
@@ -103,7 +103,7 @@ impl Queue {
             if MODULUS <= base {
                 return [0; Queue::SLOTS];
             }
-            if reply.len() < Queue::REPLY {
+            if reply.len() < Queue::REPLY_SIZE {
                 return [0; Queue::SLOTS];
             }
             let n = self.count;

@@ -174,8 +174,7 @@ module _ (whole : Lined) (r : Reader) (chunk m out : List ℕ) (n i at : ℕ) (w
     )
 
   -- a report goes on
-  module _ (p : Report) (told : a .outcome ≡ Reported p) (n′ at′ : ℕ) (out′ : List ℕ) (counted : n′ ≡ next n)
-      (ends : at′ ≡ textEnd (roomOf p m′) (lineOf n′ p m′) (length out) at) (put : out′ ≡ textInto (roomOf p m′) (lineOf n′ p m′) out at) where
+  module _ (p : Report) (told : a .outcome ≡ Reported p) where
     outcome-is : read r rest m .answer .outcome ≡ Reported p
     outcome-is = ap (λ (k : Call). k .answer .outcome) call-is ∙ told
 
@@ -187,21 +186,25 @@ module _ (whole : Lined) (r : Reader) (chunk m out : List ℕ) (n i at : ℕ) (w
     line-fits : at + roomOf p m′ ≤ length out
     line-fits = omega (arith, length-dataOf p m′, read-fits r rest m p outcome-is)
 
-    line-made : linesAt n′ out′ at′ ≡ withLine (linesAt n out at) p m′
-    unfolding withLine
-    line-made =
-        let t = text-room (roomOf p m′) (lineOf n′ p m′) out at line-fits in
-        let b : at′ ≡ at + length (lineOf n′ p m′) = ends ∙ t .0 in
-        let o : out′ ≡ sets out at (lineOf n′ p m′) = put ∙ t .1 in
-        (λ j. record { reports = n′; out = o j; behind = b j }) ∙ ap (λ (n : ℕ). record { reports = n; out = sets out at (lineOf n p m′); behind = at + length (lineOf n p m′) }) counted
+    module _ (n′ at′ : ℕ) (out′ : List ℕ) (counted : n′ ≡ next n)
+        (ends : at′ ≡ textEnd (roomOf p m′) (lineOf n′ p m′) (length out) at) (put : out′ ≡ textInto (roomOf p m′) (lineOf n′ p m′) out at) where
+      line-made : linesAt n′ out′ at′ ≡ withLine (linesAt n out at) p m′
+      unfolding withLine
+      line-made =
+          let t = text-room (roomOf p m′) (lineOf n′ p m′) out at line-fits in
+          let b : at′ ≡ at + length (lineOf n′ p m′) = ends ∙ t .0 in
+          let o : out′ ≡ sets out at (lineOf n′ p m′) = put ∙ t .1 in
+          (λ j. record { reports = n′; out = o j; behind = b j })
+          ∙ ap (λ (n : ℕ). record { reports = n; out = sets out at (lineOf n p m′); behind = at + length (lineOf n p m′) }) counted
 
-    pub turn-goes : whole ≡ behindOctets (i + a .taken) (lines (a .reader) (drop (i + a .taken) chunk) m′ (linesAt n′ out′ at′))
-    turn-goes =
-        left
-        ∙ ap (behindOctets i) (lines-goes r rest m (linesAt n out at) p has-room outcome-is)
-        ∙ ap (λ (k : Call). behindOctets i (behindOctets (k .answer .taken) (lines (k .answer .reader) (drop (k .answer .taken) rest) (k .buffer) (withLine (linesAt n out at) p (k .buffer))))) call-is
-        ∙ behind-behind i (a .taken) _
-        ∙ ap₂ (λ (xs : List ℕ) (c : Lines). behindOctets (i + a .taken) (lines (a .reader) xs m′ c)) (ap (drop (a .taken)) rest-drop ∙ drop-drop (a .taken) i chunk) (sym line-made)
+      pub turn-goes : whole ≡ behindOctets (i + a .taken) (lines (a .reader) (drop (i + a .taken) chunk) m′ (linesAt n′ out′ at′))
+      turn-goes =
+          let rest-of : Call → Lined = λ k. lines (k .answer .reader) (drop (k .answer .taken) rest) (k .buffer) (withLine (linesAt n out at) p (k .buffer)) in
+          left
+          ∙ ap (behindOctets i) (lines-goes r rest m (linesAt n out at) p has-room outcome-is)
+          ∙ ap (λ (k : Call). behindOctets i (behindOctets (k .answer .taken) (rest-of k))) call-is
+          ∙ behind-behind i (a .taken) _
+          ∙ ap₂ (λ (xs : List ℕ) (c : Lines). behindOctets (i + a .taken) (lines (a .reader) xs m′ c)) (ap (drop (a .taken)) rest-drop ∙ drop-drop (a .taken) i chunk) (sym line-made)
 
 -- there is no room for every line any more
 pub turn-full : (whole : Lined) (r : Reader) (xs m out : List ℕ) (n i at : ℕ) → length out < at + maxLine → whole ≡ behindOctets i (lines r xs m (linesAt n out at))

@@ -1,15 +1,8 @@
-use borrow.Author.Tests.{lt-ltb, le-ltb}
+-- `list_stdin::list` meets its contract. Assumes nothing.
 use borrow.Author.Needs.{needs}
+use borrow.Author.Tests.{lt-ltb, le-ltb}
 use Rattle.list_stdin.proofs.list.Statement.{statement}
 use Rattle.list_stdin.proofs.list.Tie as tie
-use Rattle.list_stdin.proofs.list.Reads as reads
-use Rattle.list_stdin.proofs.list.Lts as lts
-use Rattle.io.proofs.large_buffer.Reads as large-buffer-reads
-use Rattle.list_stdin.proofs.list_chunks.Reads as list-chunks-reads
-use Rattle.list_stdin.proofs.write.Reads as write-reads
-use Rattle.lister.proofs.Lister.new.Reads as new-reads
-use Rattle.lister.proofs.Lister.put_end.Reads as put-end-reads
-use Rattle.listing.proofs.put_heading.Reads as put-heading-reads
 
 returns : tie.Need-returns
 returns c = simp (lt-ltb _ _ (c .if1 .taken))

@@ -1,15 +1,12 @@
+-- `list_stdin::list_chunk` is safe and ends: a call takes no more than is left, and where it takes nothing the loop ends. Assumes nothing.
 use Prim.Native.Nat.{_-_, _≤_}
 use mathlib.Core.Path.{_≡_, _∙_}
-use lib.ListN.{length}
-use Rattle.lister.proofs.Calls.{list-taken-rest}
 use native.Mathlib.Omega.{arith}
 use borrow.Author.Needs.{needs}
+use lib.ListN.{length}
 use Rattle.list_stdin.proofs.list_chunk.Statement.{statement}
 use Rattle.list_stdin.proofs.list_chunk.Tie as tie
-use Rattle.list_stdin.proofs.list_chunk.Reads as reads
-use Rattle.list_stdin.proofs.list_chunk.Lts as lts
-use Rattle.list_stdin.proofs.write.Reads as write-reads
-use Rattle.lister.proofs.Lister.list.Reads as list-reads
+use Rattle.lister.proofs.Calls.{list-taken-rest}
 
 abbrev Inv-loop : tie.InvT-loop
 Inv-loop chunk buffer₀ out₀ s₀ i₀ buffer out s i = (i ≤ length chunk) × (length buffer ≡ length buffer₀) × (length out ≡ length out₀)

@@ -1,22 +1,16 @@
-use Rattle.lister.proofs.Turns.{linesAt, start-inv, turn-within, turn-takes, turn-ends, turn-goes, turn-full, no-report}
 -- `lister::put_lines` meets its contract. The loop's invariant: what is left of the chunk gives what the whole gives, i octets on. Assumes nothing.
-use Prim.Native.Nat.{_-_, _≤_}
+use Prim.Native.Nat.{_+_, _-_, _≤_, _<_}
 use mathlib.Core.Path.{_≡_, refl, _∙_}
 use native.Mathlib.Omega.{arith}
 use borrow.Author.Needs.{needs}
 use lib.ListN.{length, drop}
-use Rattle.lister.proofs.Turns.{linesAt}
-use Rattle.lister.specs.Lines.{lines, behindOctets}
-use native.Mathlib.Omega.{arith}
-use borrow.Author.Needs.{needs}
+use Rattle.lister.proofs.Turns.{linesAt, start-inv, turn-within, turn-takes, turn-ends, turn-goes, turn-full, no-report}
 use Rattle.lister.proofs.put_lines.Statement.{statement}
 use Rattle.lister.proofs.put_lines.Tie as tie
-use Rattle.lister.proofs.put_lines.Reads as reads
-use Rattle.lister.proofs.put_lines.Lts as lts
-use Rattle.lister.proofs.refusal.Reads as refusal-reads
-use Rattle.listing.proofs.put_report.Reads as put-report-reads
-use Rattle.qaft_read.proofs.Reader.read.Reads as read-reads
-use Rattle.std.proofs.num.wrapping_add_u64.Reads as wrapping-add-u64-reads
+use Rattle.lister.specs.Lines.{lines, behindOctets}
+use Rattle.listing.specs.Line.{maxLine}
+use Rattle.qaft_report.specs.declared.Outcome.the-variants.{Reported}
+use Rattle.qaft_report.specs.declared.Report.{Report}
 
 abbrev Inv-loop : tie.InvT-loop
 Inv-loop chunk buffer₀ out₀ last r₀ n₀ i₀ at₀ buffer out r n i at =
@@ -27,6 +21,24 @@ Inv-loop chunk buffer₀ out₀ last r₀ n₀ i₀ at₀ buffer out r n i at =
 
 abbrev μ-loop : tie.MeasureT-loop
 μ-loop chunk buffer₀ out₀ last r₀ n₀ i₀ at₀ buffer out r n i at = length chunk - i
+
+-- the laws of a turn, behind its call of the reader
+room : (c : tie.After-read Inv-loop μ-loop) → c .before .before .before .before .loop .at + maxLine ≤ length (c .before .before .before .before .loop .out)
+room c = omega (arith, c .before .before .before .loop-test .taken, c .before .before .before .before .loop .inv .2, c .before .before .before .before .before .before .before .before .before .pre)
+
+within : (c : tie.After-read Inv-loop μ-loop) → c .before .before .before .before .loop .i + c .read .result .taken ≤ length (c .before .before .before .before .before .before .before .before .before .args .chunk .now)
+within c =
+    let l = c .before .before .before .before .loop in
+    let s = c .before .before .before .before .before .before .before .before .before .args in
+    let e = c .read .ensures in
+    turn-within _ (l .r) (s .chunk .now) (l .buffer) (l .out) (l .n) (l .i) (l .at) (l .inv .0) (room c) (l .inv .3) _ refl _ _ (e .0) (e .1)
+
+takes : (c : tie.After-read Inv-loop μ-loop) (p : Report) → c .read .result .outcome ≡ Reported p → 0 < c .read .result .taken
+takes c p told =
+    let l = c .before .before .before .before .loop in
+    let s = c .before .before .before .before .before .before .before .before .before .args in
+    let e = c .read .ensures in
+    turn-takes _ (l .r) (s .chunk .now) (l .buffer) (l .out) (l .n) (l .i) (l .at) (l .inv .0) (room c) (l .inv .3) _ refl _ _ (e .0) (e .1) p told
 
 sub-last : tie.Need-sub-last Inv-loop μ-loop
 sub-last c = search needs
@@ -47,11 +59,7 @@ read-requires : tie.Need-read-requires Inv-loop μ-loop
 read-requires c κs = search needs
 
 add-i : tie.Need-add-i Inv-loop μ-loop
-add-i c =
-    let l = c .before .before .before .before .before .before .before .before .loop in
-    let s = c .before .before .before .before .before .before .before .before .before .before .before .before .before .args in
-    let e = c .before .before .before .before .read .ensures in
-    omega (arith, turn-within _ (l .r) (s .chunk .now) (l .buffer) (l .out) (l .n) (l .i) (l .at) (l .inv .0) (omega (arith, c .before .before .before .before .before .before .before .loop-test .taken, l .inv .2, c .before .before .before .before .before .before .before .before .before .before .before .before .before .pre)) (l .inv .3) _ refl _ _ (e .0) (e .1))
+add-i c = omega (arith, within (c .before .before .before .before))
 
 enum-known-outcome : tie.Need-enum-known-outcome Inv-loop μ-loop
 enum-known-outcome c = search needs
@@ -66,11 +74,12 @@ same-length-2 : tie.Need-same-length-2 Inv-loop μ-loop
 same-length-2 c = c .before .before .before .before .before .before .before .before .before .before .loop .inv .2
 
 returns : tie.Need-returns Inv-loop μ-loop
-returns c =
-    let l = c .before .before .before .before .before .before .before .before .before .before .loop in
-    let s = c .before .before .before .before .before .before .before .before .before .before .before .before .before .before .before .args in
-    let e = c .before .before .before .before .before .before .read .ensures in
-    let t = turn-ends _ (l .r) (s .chunk .now) (l .buffer) (l .out) (l .n) (l .i) (l .at) (l .inv .0) (omega (arith, c .before .before .before .before .before .before .before .before .before .loop-test .taken, l .inv .2, c .before .before .before .before .before .before .before .before .before .before .before .before .before .before .before .pre)) (l .inv .3) _ refl _ _ (e .0) (e .1) (no-report _ (c .before .match .keys2)) _ (c .refusal .ensures) in
+returns k =
+    let c = k .before .before .before .before .before .before in
+    let l = c .before .before .before .before .loop in
+    let s = c .before .before .before .before .before .before .before .before .before .args in
+    let e = c .read .ensures in
+    let t = turn-ends _ (l .r) (s .chunk .now) (l .buffer) (l .out) (l .n) (l .i) (l .at) (l .inv .0) (room c) (l .inv .3) _ refl _ _ (e .0) (e .1) (no-report _ (k .before .match .keys2)) _ (k .refusal .ensures) in
     (t .0, (t .1, t .2))
 
 wrapping-add-u64-requires : tie.Need-wrapping-add-u64-requires Inv-loop μ-loop
@@ -81,24 +90,20 @@ put-report-requires c κs = search needs
 
 loop-less : tie.Need-loop-less Inv-loop μ-loop
 loop-less c =
-    let l = c .before .before .before .before .before .before .before .before .before .before .before .before .before .before .before .before .before .loop in
-    let s = c .before .before .before .before .before .before .before .before .before .before .before .before .before .before .before .before .before .before .before .before .before .before .args in
-    let e = c .before .before .before .before .before .before .before .before .before .before .before .before .before .read .ensures in
-    let p = c .before .before .put-report .ensures in
-    let within = turn-within _ (l .r) (s .chunk .now) (l .buffer) (l .out) (l .n) (l .i) (l .at) (l .inv .0) (omega (arith, c .before .before .before .before .before .before .before .before .before .before .before .before .before .before .before .before .loop-test .taken, l .inv .2, c .before .before .before .before .before .before .before .before .before .before .before .before .before .before .before .before .before .before .before .before .before .before .pre)) (l .inv .3) _ refl _ _ (e .0) (e .1) in
-    omega (arith, within, turn-takes _ (l .r) (s .chunk .now) (l .buffer) (l .out) (l .n) (l .i) (l .at) (l .inv .0) (omega (arith, c .before .before .before .before .before .before .before .before .before .before .before .before .before .before .before .before .loop-test .taken, l .inv .2, c .before .before .before .before .before .before .before .before .before .before .before .before .before .before .before .before .before .before .before .before .before .before .pre)) (l .inv .3) _ refl _ _ (e .0) (e .1) _ (c .before .before .before .before .before .before .before .outcome .given .1) _ _ _ (c .before .before .before .before .before .wrapping-add-u64 .ensures) (p .0) (p .1))
+    let k = c .before .before .before .before .before .before .before .before .before .before .before .before .before in
+    omega (arith, within k, takes k _ (c .before .before .before .before .before .before .before .outcome .given .1))
 
 loop-again : tie.Need-loop-again Inv-loop μ-loop
-loop-again c =
-    let l = c .before .before .before .before .before .before .before .before .before .before .before .before .before .before .before .before .before .loop in
-    let s = c .before .before .before .before .before .before .before .before .before .before .before .before .before .before .before .before .before .before .before .before .before .before .args in
-    let r = c .before .before .before .before .before .before .before .before .before .before .before .before .before .read in
-    let e = r .ensures in
-    let p = c .before .before .put-report .ensures in (
-      turn-within _ (l .r) (s .chunk .now) (l .buffer) (l .out) (l .n) (l .i) (l .at) (l .inv .0) (omega (arith, c .before .before .before .before .before .before .before .before .before .before .before .before .before .before .before .before .loop-test .taken, l .inv .2, c .before .before .before .before .before .before .before .before .before .before .before .before .before .before .before .before .before .before .before .before .before .before .pre)) (l .inv .3) _ refl _ _ (e .0) (e .1),
-      r .kept .1 .1 .0 ∙ l .inv .1,
-      c .before .before .put-report .kept .1 .1 .1 .0 ∙ l .inv .2,
-      turn-goes _ (l .r) (s .chunk .now) (l .buffer) (l .out) (l .n) (l .i) (l .at) (l .inv .0) (omega (arith, c .before .before .before .before .before .before .before .before .before .before .before .before .before .before .before .before .loop-test .taken, l .inv .2, c .before .before .before .before .before .before .before .before .before .before .before .before .before .before .before .before .before .before .before .before .before .before .pre)) (l .inv .3) _ refl _ _ (e .0) (e .1) _ (c .before .before .before .before .before .before .before .outcome .given .1) _ _ _ (c .before .before .before .before .before .wrapping-add-u64 .ensures) (p .0) (p .1),
+loop-again k =
+    let c = k .before .before .before .before .before .before .before .before .before .before .before .before .before in
+    let l = c .before .before .before .before .loop in
+    let s = c .before .before .before .before .before .before .before .before .before .args in
+    let e = c .read .ensures in
+    let p = k .before .before .put-report in (
+      within c,
+      c .read .kept .1 .1 .0 ∙ l .inv .1,
+      p .kept .1 .1 .1 .0 ∙ l .inv .2,
+      turn-goes _ (l .r) (s .chunk .now) (l .buffer) (l .out) (l .n) (l .i) (l .at) (l .inv .0) (room c) (l .inv .3) _ refl _ _ (e .0) (e .1) _ (k .before .before .before .before .before .before .before .outcome .given .1) _ _ _ (k .before .before .before .before .before .wrapping-add-u64 .ensures) (p .ensures .0) (p .ensures .1),
     )
 
 same-length-3 : tie.Need-same-length-3 Inv-loop μ-loop

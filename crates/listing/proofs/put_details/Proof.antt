@@ -1,12 +1,8 @@
-use Rattle.listing.proofs.Line.{details-placed, no-details, placed-none}
+-- `listing::put_details` meets its contract: nothing, or four pieces one after another. Assumes nothing.
 use borrow.Author.Needs.{needs}
+use Rattle.listing.proofs.Line.{details-placed, no-details, placed-none}
 use Rattle.listing.proofs.put_details.Statement.{statement}
 use Rattle.listing.proofs.put_details.Tie as tie
-use Rattle.listing.proofs.put_details.Reads as reads
-use Rattle.listing.proofs.put_details.Lts as lts
-use Rattle.octets.proofs.put.Reads as put-reads
-use Rattle.text.proofs.put_decimal.Reads as put-decimal-reads
-use Rattle.text.proofs.put_hex.Reads as put-hex-reads
 
 enum-told : tie.Need-enum-told
 enum-told c = search needs

@@ -1,13 +1,10 @@
+-- `listing::put_heading` meets its contract: no room, and the line. Assumes nothing.
 use mathlib.Core.Path.{sym, _∙_}
+use borrow.Author.Needs.{needs}
 use borrow.Author.Tests.{leb-true, leb-false}
 use Rattle.listing.proofs.Line.{text-none, text-placed}
-use borrow.Author.Needs.{needs}
 use Rattle.listing.proofs.put_heading.Statement.{statement}
 use Rattle.listing.proofs.put_heading.Tie as tie
-use Rattle.listing.proofs.put_heading.Reads as reads
-use Rattle.listing.proofs.put_heading.Lts as lts
-use Rattle.listing.proofs.has_room.Reads as has-room-reads
-use Rattle.listing.proofs.heading_pieces.Reads as heading-pieces-reads
 
 has-room-requires : tie.Need-has-room-requires
 has-room-requires c κs = search needs

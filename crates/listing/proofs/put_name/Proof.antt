@@ -1,13 +1,9 @@
-use Rattle.listing.proofs.Line.{name-within, put-named}
+-- `listing::put_name` meets its contract: one part of the text of all names. Assumes nothing.
 use native.Mathlib.Omega.{arith}
 use borrow.Author.Needs.{needs}
+use Rattle.listing.proofs.Line.{name-within, put-named}
 use Rattle.listing.proofs.put_name.Statement.{statement}
 use Rattle.listing.proofs.put_name.Tie as tie
-use Rattle.listing.proofs.put_name.Reads as reads
-use Rattle.listing.proofs.put_name.Lts as lts
-use Rattle.listing.proofs.name_end.Reads as name-end-reads
-use Rattle.listing.proofs.name_start.Reads as name-start-reads
-use Rattle.listing.proofs.put_part.Reads as put-part-reads
 
 slice-aggregate-put-part : tie.Need-slice-aggregate-put-part
 slice-aggregate-put-part c = search needs

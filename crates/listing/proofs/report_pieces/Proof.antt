@@ -1,14 +1,9 @@
-use Rattle.listing.proofs.Line.{details-room, line-placed}
+-- `listing::report_pieces` meets its contract: four pieces one after another, with room for what stands behind the name. Assumes nothing.
 use native.Mathlib.Omega.{arith}
 use borrow.Author.Needs.{needs}
+use Rattle.listing.proofs.Line.{details-room, line-placed}
 use Rattle.listing.proofs.report_pieces.Statement.{statement}
 use Rattle.listing.proofs.report_pieces.Tie as tie
-use Rattle.listing.proofs.report_pieces.Reads as reads
-use Rattle.listing.proofs.report_pieces.Lts as lts
-use Rattle.listing.proofs.put_details.Reads as put-details-reads
-use Rattle.listing.proofs.put_name.Reads as put-name-reads
-use Rattle.octets.proofs.put.Reads as put-reads
-use Rattle.text.proofs.put_decimal.Reads as put-decimal-reads
 
 put-decimal-requires : tie.Need-put-decimal-requires
 put-decimal-requires c κs = search needs

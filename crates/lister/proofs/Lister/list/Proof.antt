@@ -1,13 +1,9 @@
-use Rattle.lister.proofs.Calls.{taken-part, list-refused, list-lines}
+-- `Lister::list` meets its contract: no room for every line, and the lines of the chunk with their octets counted. Assumes nothing.
 use native.Mathlib.Omega.{arith}
 use borrow.Author.Needs.{needs}
+use Rattle.lister.proofs.Calls.{taken-part, list-refused, list-lines}
 use Rattle.lister.proofs.Lister.list.Statement.{statement}
 use Rattle.lister.proofs.Lister.list.Tie as tie
-use Rattle.lister.proofs.Lister.list.Reads as reads
-use Rattle.lister.proofs.Lister.list.Lts as lts
-use Rattle.capture.proofs.Counts.add.Reads as add-reads
-use Rattle.lister.proofs.Lister.refused.Reads as refused-reads
-use Rattle.lister.proofs.put_lines.Reads as put-lines-reads
 
 refused-requires : tie.Need-refused-requires
 refused-requires c κs = search needs

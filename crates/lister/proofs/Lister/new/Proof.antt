@@ -1,13 +1,10 @@
+-- `Lister::new`: nothing is listed yet. Assumes nothing.
 use mathlib.Core.Path.{ap₂}
-use Rattle.capture.specs.declared.Counts.{Counts}
-use Rattle.qaft_read.specs.declared.Reader.{Reader}
 use borrow.Author.Needs.{needs}
+use Rattle.capture.specs.declared.Counts.{Counts}
 use Rattle.lister.proofs.Lister.new.Statement.{statement}
 use Rattle.lister.proofs.Lister.new.Tie as tie
-use Rattle.lister.proofs.Lister.new.Reads as reads
-use Rattle.lister.proofs.Lister.new.Lts as lts
-use Rattle.capture.proofs.Counts.new.Reads as new-reads
-use Rattle.qaft_read.proofs.Reader.fresh.Reads as fresh-reads
+use Rattle.qaft_read.specs.declared.Reader.{Reader}
 
 fresh-requires : tie.Need-fresh-requires
 fresh-requires c κs = search needs
