@@ -6,7 +6,7 @@ ghost use Rattle.common.specs.FirstRefusal.{firstRefusal};
 ghost use Rattle.afp.specs.Limits.{minFrame, minHeader};
 ghost use Rattle.afp.specs.Layout.{offset, stationsIn, rightHeaderSum};
 ghost use Rattle.afp.specs.Reading.{envelopeRefusals, fixedRefusals, stationRefusals, restRefusals, refusedReading, acceptedReading, readOf};
-ghost use Rattle.afp.specs.Meaning.{partOf, meaning, verdict};
+ghost use Rattle.afp.specs.Meaning.{meaning, verdict};
 use stations::Stations;
 
 // Limits of a frame.
@@ -274,46 +274,4 @@ pub fn read(f: &[u8]) -> Reading
         return refuse(d);
     }
     accept(f, r)
-}
-
-// The octets of a part of a frame; what lies behind the frame's end is left out.
-pub fn octets_of(f: &[u8], q: Part) -> &[u8]
-    ensures { λ r. ⌜ now r ≡ partOf q (now (f .entry)) ⌝ }
-{
-    let n = f.len();
-    let a = q.place;
-    let k = q.size;
-    if n <= a {
-        return &f[..0];
-    }
-    let left = n - a;
-    if left < k {
-        return &f[a..];
-    }
-    let e = a + k;
-    &f[a..e]
-}
-
-// The station fields that an answer shows, with their closing 0.
-pub fn station_fields(f: &[u8], r: Reading) -> &[u8]
-    ensures { λ a. ⌜ now a ≡ partOf (r .stations) (now (f .entry)) ⌝ }
-{
-    let q = r.stations;
-    octets_of(f, q)
-}
-
-// The supplementary header that an answer shows, with its length octet; nothing where it is absent.
-pub fn supplementary_header(f: &[u8], r: Reading) -> &[u8]
-    ensures { λ a. ⌜ now a ≡ partOf (r .supplementary) (now (f .entry)) ⌝ }
-{
-    let q = r.supplementary;
-    octets_of(f, q)
-}
-
-// The data that an answer shows.
-pub fn frame_data(f: &[u8], r: Reading) -> &[u8]
-    ensures { λ a. ⌜ now a ≡ partOf (r .payload) (now (f .entry)) ⌝ }
-{
-    let q = r.payload;
-    octets_of(f, q)
 }

@@ -1,9 +1,9 @@
--- `afp::octets_of` meets its contract. Assumes nothing.
+-- `afp_parts::octets_of` meets its contract. Assumes nothing.
 use Rattle.common.proofs.Parts.{part-behind, part-over, part-within}
 use native.Mathlib.Omega.{arith}
 use borrow.Author.Needs.{needs}
-use Rattle.afp.proofs.octets_of.Statement.{statement}
-use Rattle.afp.proofs.octets_of.Tie as tie
+use Rattle.afp_parts.proofs.octets_of.Statement.{statement}
+use Rattle.afp_parts.proofs.octets_of.Tie as tie
 
 slice-aggregate-result : tie.Need-slice-aggregate-result
 slice-aggregate-result c = search needs

@@ -1,9 +1,9 @@
--- `afp::frame_data`: one part of the frame. Assumes nothing.
+-- `afp_parts::frame_data`: one part of the frame. Assumes nothing.
 use mathlib.Core.Path.{_≡_}
 use denote.Ref.{now}
 use Rattle.afp.specs.Meaning.{partOf}
-use Rattle.afp.proofs.frame_data.Statement.{statement}
-use Rattle.afp.proofs.frame_data.Tie as tie
+use Rattle.afp_parts.proofs.frame_data.Statement.{statement}
+use Rattle.afp_parts.proofs.frame_data.Tie as tie
 
 octets-of-requires : tie.Need-octets-of-requires
 octets-of-requires c κs = tt

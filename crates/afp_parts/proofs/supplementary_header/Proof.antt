@@ -1,9 +1,9 @@
--- `afp::supplementary_header`: one part of the frame. Assumes nothing.
+-- `afp_parts::supplementary_header`: one part of the frame. Assumes nothing.
 use mathlib.Core.Path.{_≡_}
 use denote.Ref.{now}
 use Rattle.afp.specs.Meaning.{partOf}
-use Rattle.afp.proofs.supplementary_header.Statement.{statement}
-use Rattle.afp.proofs.supplementary_header.Tie as tie
+use Rattle.afp_parts.proofs.supplementary_header.Statement.{statement}
+use Rattle.afp_parts.proofs.supplementary_header.Tie as tie
 
 octets-of-requires : tie.Need-octets-of-requires
 octets-of-requires c κs = tt
