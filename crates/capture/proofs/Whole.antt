@@ -20,7 +20,8 @@ hunting b a = record { synced = false; before = b; after = a }
 abbrev synced : (b a : ℕ) → Counts
 synced b a = record { synced = true; before = b; after = a }
 
-next-small : (n k : ℕ) → n + suc k < 2 ^ 64 → next n ≡ n + 1
+-- a count that does not wrap
+pub next-small : (n k : ℕ) → n + suc k < 2 ^ 64 → next n ≡ n + 1
 next-small n k h = omega arith
 
 -- behind a flag

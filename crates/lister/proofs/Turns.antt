@@ -2,7 +2,7 @@
 use Prim.Native.Nat.{ℕ, _+_, _-_, _≤_, _<_}
 use mathlib.Core.Bool.{Bool, true, false, cond}
 use mathlib.Core.List.{List, [], _∷_}
-use mathlib.Core.Option.{Option, none, some}
+use mathlib.Core.Option.{Option, none}
 use mathlib.Core.Path.{_≡_, refl, sym, ap, ap₂, _∙_}
 use native.Mathlib.Nat.{add-zero}
 use native.Mathlib.Omega.{arith}
@@ -24,6 +24,7 @@ use Rattle.listing.proofs.Line.{text-room}
 use Rattle.listing.specs.Line.{maxLine, textInto, textEnd, dataOf, roomOf, lineOf}
 use Rattle.qaft.specs.Answers.{done}
 use Rattle.qaft.specs.Limits.{maxLevel, maxSegment}
+use Rattle.qaft_laws.proofs.Cutting.{reportOf-outcomeOf}
 use Rattle.qaft_laws.proofs.Formed.{action-keeps}
 use Rattle.qaft_laws.proofs.Lengths.{read-fits}
 use Rattle.qaft_read.proofs.Refusals.{Fit, read-ind, read-taken, read-report-takes, some-reported}
@@ -59,11 +60,6 @@ lines-gather r xs m c h = go (hasRoom c) refl
 abbrev ended : Call → Lines → Lined
 ended k c = record { number = refusalOf (k .answer .outcome); gathered = record { taken = k .answer .taken; state = k .answer .reader; buffer = k .buffer; made = c } }
 
-none-reported : (o : Option Report) → reportOf (outcomeOf o) ≡ none → o ≡ none
-unfolding reportOf outcomeOf
-none-reported none e = refl
-none-reported (some p) e = e
-
 refusalOf-none : (o : Option Report) → o ≡ none → done ≡ refusalOf (outcomeOf o)
 unfolding outcomeOf
 refusalOf-none o e = rw e
@@ -73,7 +69,7 @@ scan-ended : (r : Reader) (xs m : List ℕ) (c : Lines) → reportOf (scanCall r
 unfolding scanCall callOf
 scan-ended r xs m c e =
     let u = scan action r xs m in
-    let none-made = none-reported (u .report) e in
+    let none-made = sym (reportOf-outcomeOf (u .report)) ∙ e in
     let same = gather-none withLine hasRoom action xs r m c none-made in
     λ i. record { number = refusalOf-none (u .report) none-made i; gathered = same i }
 

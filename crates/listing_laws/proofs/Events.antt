@@ -3,9 +3,11 @@ use Prim.Native.Nat.{ℕ, suc, _+_, _^_, _<_}
 use mathlib.Core.List.{List, [], _∷_, _++_, append-assoc}
 use mathlib.Core.Path.{_≡_, refl, sym, ap, ap₂, _∙_}
 use native.Mathlib.Nat.{add-zero}
+use native.Mathlib.Numerals.{add-one}
 use native.Mathlib.Omega.{arith}
 use lib.ListN.{length, length-append}
 use lib.Seq.{sets}
+use Rattle.capture.proofs.Whole.{next-small}
 use Rattle.capture.specs.Counts.{next}
 use Rattle.common.proofs.Buffer.{sets-++}
 use Rattle.line.specs.Gather.{makeAll}
@@ -60,7 +62,7 @@ line-shown k Short m = refl
 line-shown k BadCheck m = refl
 
 next-suc : (n k : ℕ) → n + suc k < 2 ^ 64 → next n ≡ suc n
-next-suc n k h = omega arith
+next-suc n k h = next-small n k h ∙ add-one n
 
 -- as long as the numbers do not wrap
 pub lines-shown : (es : List (Event Report)) (n : ℕ) → n + length es < 2 ^ 64 → eventLines n es ≡ linesFrom n (shownReports es)

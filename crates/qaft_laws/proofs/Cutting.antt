@@ -20,8 +20,8 @@ use Rattle.qaft_read.specs.State.{malformed}
 use Rattle.qaft_read.specs.declared.Reader.{Reader}
 use Rattle.qaft_report.specs.declared.Report.{Report}
 
--- a call that is not refused is a scan
-reportOf-outcomeOf : (o : Option Report) → reportOf (outcomeOf o) ≡ o
+-- the report that an outcome of a scan has
+pub reportOf-outcomeOf : (o : Option Report) → reportOf (outcomeOf o) ≡ o
 unfolding reportOf outcomeOf
 reportOf-outcomeOf none = refl
 reportOf-outcomeOf (some p) = refl
