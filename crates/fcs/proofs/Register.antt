@@ -173,10 +173,10 @@ feed-halves d xs k c r ce re =
     ∙ sym (feed-++ d (take k xs) (drop k xs))
     ∙ ap (feedAll d) (take-append-drop k xs)
 
-pub feed-parts : (xs : List ℕ) (k c r : ℕ) → c ≡ feedAll preset (take k xs) → r ≡ feedAll c (take (length xs - k) (drop k xs))
-    → 0xFFFF - r ≡ checkSequence xs
+-- the register after a list from the preset on, complemented
+pub feed-complement : (xs : List ℕ) (r : ℕ) → r ≡ feedAll preset xs → 0xFFFF - r ≡ checkSequence xs
 unfolding checkSequence
-feed-parts xs k c r ce re = ap (λ (r : ℕ). 0xFFFF - r) (feed-halves preset xs k c r ce re)
+feed-complement xs r e = ap (λ (r : ℕ). 0xFFFF - r) e
 
 pub whole-twos : (xs : List ℕ) → length (take (length xs - length xs % 2) xs) % 2 ≡ 0
 whole-twos xs = let n = length-take-le (length xs - length xs % 2) xs (omega arith) in omega arith

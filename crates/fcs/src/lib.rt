@@ -117,12 +117,20 @@ fn feed_rest(register: u16, octets: &[u8]) -> u16
     feed_octets(c, &octets[even..])
 }
 
+// The register after a slice of any length, so that octets which come in parts can be fed as they come.
+// Whole eights first, since a word takes one division; fewer than eight are left for the rest.
+pub fn feed(register: u16, octets: &[u8]) -> u16
+    ensures { λ r. ⌜ r ≡ feedAll register (now (octets .entry)) ⌝ }
+{
+    let n = octets.len();
+    let whole = n - n % 8;
+    let c = feed_eights(register, &octets[..whole]);
+    feed_rest(c, &octets[whole..])
+}
+
 // The check sequence of a slice. Its low octet goes on the line first.
 pub fn check_sequence(octets: &[u8]) -> u16
     ensures { λ r. ⌜ r ≡ checkSequence (now (octets .entry)) ⌝ }
 {
-    let n = octets.len();
-    let whole = n - n % 8;
-    let c = feed_eights(PRESET, &octets[..whole]);
-    !feed_rest(c, &octets[whole..])
+    !feed(PRESET, octets)
 }
