@@ -2,3 +2,4 @@ pub mod Scan
 pub mod Trace
 pub mod Chunks
 pub mod Gather
+pub mod Simulation

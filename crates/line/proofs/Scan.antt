@@ -85,16 +85,16 @@ module _ {S R : Type 0} where
   scan-apart f [] s m n = refl
   scan-apart f (x ∷ xs) s m n = scanOn-apart (f s x) (λ t n. scan f t xs n) m n (λ t i j. scan-apart f xs t i j)
 
--- what holds of every report that one octet can make holds of a call's report
-module _ {S R : Type 0} (f : S → ℕ → Action S R) (Ok : R → Type 0) (makes : (s : S) (x : ℕ) (r : R) (t : S) → f s x ≡ emit r t → Ok r) where
-  report-on : (a : Action S R) (s : S) (x : ℕ) (xs m : List ℕ) (r : R) → f s x ≡ a → ((t : S) (n : List ℕ) → scan f t xs n .report ≡ some r → Ok r)
-      → scanOn a (λ t n. scan f t xs n) m .report ≡ some r → Ok r
+-- what holds of every report that one octet can make, and of the state behind it, holds of a call's report and state
+module _ {S R : Type 0} (f : S → ℕ → Action S R) (Ok : R → S → Type 0) (makes : (s : S) (x : ℕ) (r : R) (t : S) → f s x ≡ emit r t → Ok r t) where
+  report-on : (a : Action S R) (s : S) (x : ℕ) (xs m : List ℕ) (r : R) → f s x ≡ a → ((t : S) (n : List ℕ) → scan f t xs n .report ≡ some r → Ok r (scan f t xs n .state))
+      → scanOn a (λ t n. scan f t xs n) m .report ≡ some r → Ok r (scanOn a (λ t n. scan f t xs n) m .state)
   unfolding scanOn after
   report-on (advance t) s x xs m r e ih h = ih t m h
   report-on (store t i y) s x xs m r e ih h = ih t (set m i y) h
-  report-on (emit q t) s x xs m r e ih h = let z : q ≡ r = cc in subst Ok z (makes s x q t e)
+  report-on (emit q t) s x xs m r e ih h = let z : q ≡ r = cc in subst (λ (r : R). Ok r t) z (makes s x q t e)
 
-  pub scan-report : (xs : List ℕ) (s : S) (m : List ℕ) (r : R) → scan f s xs m .report ≡ some r → Ok r
+  pub scan-report : (xs : List ℕ) (s : S) (m : List ℕ) (r : R) → scan f s xs m .report ≡ some r → Ok r (scan f s xs m .state)
   unfolding scan
   scan-report [] s m r h = let z : _≡_ {A = ℕ} 0 1 = cc in let y : ⊥ = omega arith in absurd y
   scan-report (x ∷ xs) s m r h = report-on (f s x) s x xs m r refl (λ t n k. scan-report xs t n r k) h

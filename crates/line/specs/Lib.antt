@@ -1,3 +1,4 @@
 pub mod Scan
 pub mod Trace
 pub mod Gather
+pub mod Simulation

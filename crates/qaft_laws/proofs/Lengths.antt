@@ -67,4 +67,4 @@ pub read-fits : (r : Reader) (xs m : List ℕ) (p : Report) → read r xs m .ans
 unfolding refusal scanCall callOf
 read-fits r xs m p =
     read-ind r xs m (FitsCall p) (λ n e. let z : _≡_ {A = ℕ} 0 1 = cc in omega arith)
-    (λ _ e. scan-report action (λ (p : Report). reportLength p ≤ maxData) action-fits xs r m p (some-reported _ p e))
+    (λ _ e. scan-report action (λ (p : Report) (_ : Reader). reportLength p ≤ maxData) action-fits xs r m p (some-reported _ p e))

@@ -1,0 +1,89 @@
+-- Canonical bodies: "a body that reads as a frame is exactly the body our writer makes for it", skipped octets set aside. Over lists alone.
+-- Assumes nothing.
+use Prim.Native.Nat.{ℕ}
+use mathlib.Core.Bool.{Bool, true, false}
+use mathlib.Core.List.{List, [], _∷_}
+use mathlib.Core.Path.{_≡_, refl, sym, ap, _∙_}
+use native.Mathlib.Omega.{arith}
+use borrow.Author.Tests.{eqb-true}
+use lib.Dec.{eqb}
+use Rattle.common.proofs.Bools.{either, or-false-left, or-false-right}
+use Rattle.common.proofs.Each.{Each}
+use Rattle.framing.proofs.Unescape.{unescape-pair, unescape-plain}
+use Rattle.framing.specs.Reports.{Unescaped, atFront, segments, unskipped, onto, ontoPair, unescape}
+use Rattle.framing.specs.Rules.{Rules}
+use Rattle.framing.specs.Writing.{Writing, escapedOne, escaped, Canonical}
+
+module _ {A R : Type 0} (rules : Rules A R) where
+  -- no flag in a list of octets
+  abbrev pub NoFlag : List ℕ → Type 0
+  NoFlag s = Each (λ (x : ℕ). eqb x (rules .flag) ≡ false) s
+
+  atFront-no-flag : (x : ℕ) (ss : List (List ℕ)) → eqb x (rules .flag) ≡ false → Each NoFlag ss → Each NoFlag (atFront x ss)
+  unfolding atFront
+  atFront-no-flag x [] e h = tt
+  atFront-no-flag x (s ∷ ss) e h = ((e, h .0), h .1)
+
+  -- a segment holds none
+  pub segments-no-flag : (l : List ℕ) → Each NoFlag (segments rules l)
+  unfolding segments
+  segments-no-flag [] = tt
+  segments-no-flag (x ∷ xs) =
+      let ih = segments-no-flag xs in
+      either (Each NoFlag) (eqb x (rules .flag)) (λ _. (tt, ih)) (λ e. atFront-no-flag x (segments rules xs) e ih)
+
+  -- an octet of a segment that is not skipped
+  abbrev Raw : ℕ → Type 0
+  Raw x = (eqb x (rules .flag) ≡ false) × (rules .skips x ≡ false)
+
+  unskipped-raw : (s : List ℕ) → NoFlag s → Each Raw (unskipped rules s)
+  unfolding unskipped
+  unskipped-raw [] h = tt
+  unskipped-raw (x ∷ s) h =
+      let ih = unskipped-raw s (h .1) in
+      either (Each Raw) (rules .skips x) (λ _. ih) (λ e. ((h .0, e), ih))
+
+  module _ (writing : Writing) (canonical : Canonical rules writing) where
+    -- what is undone, written again, is what was read
+    abbrev Same : List ℕ → Type 0
+    Same s = unescape rules s .dangling ≡ false → unescape rules s .bad ≡ false → escaped writing (unescape rules s .octets) ≡ s
+
+    same-plain : (x : ℕ) (s : List ℕ) → Raw x → eqb x (rules .escape) ≡ false → Same s → Same (x ∷ s)
+    unfolding escaped escapedOne onto
+    same-plain x s h e ih = rw (unescape-plain rules x s e) (λ d b. rw (canonical .raw x (h .0) e (h .1), ih d b))
+
+    same-pair : (x y : ℕ) (s : List ℕ) → eqb x (rules .escape) ≡ true → Same s → Same (x ∷ y ∷ s)
+    unfolding escaped escapedOne ontoPair
+    same-pair x y s e ih =
+        rw (unescape-pair rules x y s e)
+        (λ d b.
+        let g = canonical .good-pair y (or-false-left (rules .badPair y) (unescape rules s .bad) b) in
+        rw (g .0, g .1, ih d (or-false-right (rules .badPair y) (unescape rules s .bad) b), eqb-true x (rules .escape) e, eqb-true (writing .escape) (rules .escape) (canonical .escape-is)))
+
+    same-none : Same []
+    unfolding unescape escaped
+    same-none d b = refl
+
+    same-escape : (x : ℕ) → eqb x (rules .escape) ≡ true → Same (x ∷ [])
+    unfolding unescape
+    same-escape x e = rw e (λ d b. let z : _≡_ {A = ℕ} 0 1 = cc in absurd (omega arith))
+
+    same-one : (x : ℕ) → Raw x → (b : Bool) → eqb x (rules .escape) ≡ b → Same (x ∷ [])
+    same-one x h true e = same-escape x e
+    same-one x h false e = same-plain x [] h e same-none
+
+    same-two : (x y : ℕ) (s : List ℕ) → Raw x → Same s → Same (y ∷ s) → (b : Bool) → eqb x (rules .escape) ≡ b → Same (x ∷ y ∷ s)
+    same-two x y s h i j true e = same-pair x y s e i
+    same-two x y s h i j false e = same-plain x (y ∷ s) h e j
+
+    escaped-unescape : (s : List ℕ) → Each Raw s → Same s
+    escaped-unescape [] h = same-none
+    escaped-unescape (x ∷ []) h = same-one x (h .0) (eqb x (rules .escape)) refl
+    escaped-unescape (x ∷ y ∷ s) h = same-two x y s (h .0) (escaped-unescape s (h .1 .1)) (escaped-unescape (y ∷ s) (h .1)) (eqb x (rules .escape)) refl
+
+    -- a segment with no escape left over and no bad pair is, skipped octets removed, what is written for the octets that it stands for
+    pub segment-canonical : (s : List ℕ) → NoFlag s → (u : Unescaped) → unescape rules (unskipped rules s) ≡ u → u .dangling ≡ false → u .bad ≡ false
+        → escaped writing (u .octets) ≡ unskipped rules s
+    segment-canonical s h u e d b =
+        ap (λ (v : Unescaped). escaped writing (v .octets)) (sym e)
+        ∙ escaped-unescape (unskipped rules s) (unskipped-raw s h) (ap (λ (v : Unescaped). v .dangling) e ∙ d) (ap (λ (v : Unescaped). v .bad) e ∙ b)

@@ -1,0 +1,9 @@
+pub mod Rules
+pub mod Lawful
+pub mod Step
+pub mod Reports
+pub mod Writing
+pub mod Stored
+pub mod PlainReading
+pub mod Run
+pub mod Closing
