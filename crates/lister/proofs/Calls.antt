@@ -10,16 +10,17 @@ use lib.Seq.{length-take-le}
 use Rattle.capture.specs.Counts.{countAll}
 use Rattle.capture.specs.declared.Counts.{Counts}
 use Rattle.common.proofs.Bools.{either}
+use Rattle.common.proofs.Refusals.{guarded-both}
 use Rattle.line.proofs.Gather.{gather-partly}
 use Rattle.line.specs.Gather.{stop}
-use Rattle.lister.proofs.Turns.{guarded-both}
 use Rattle.lister.specs.Lines.{Lines, Lined, noLines, withLine, hasRoom, lines, progressOf, Call, callOf, list}
 use Rattle.lister.specs.declared.Listed.{Listed}
 use Rattle.lister.specs.declared.Lister.{Lister}
 use Rattle.lister.specs.declared.Progress.{Progress}
 use Rattle.listing.specs.Line.{maxLine}
 use Rattle.qaft.specs.Answers.{outTooSmall}
-use Rattle.qaft_read.specs.Read.{action, refusals}
+use Rattle.qaft_read.specs.Read.{refusals}
+use Rattle.qaft_read.specs.Step.{action}
 use Rattle.qaft_read.specs.declared.Reader.{Reader}
 
 -- no more than the chunk is taken

@@ -1,6 +1,6 @@
 -- The turns of the loop over a chunk's reports, over plain variables: a call that reports nothing ends it, a report goes on. Assumes nothing.
 use Prim.Native.Nat.{ℕ, _+_, _-_, _≤_, _<_}
-use mathlib.Core.Bool.{Bool, true, false, cond}
+use mathlib.Core.Bool.{Bool, true, false}
 use mathlib.Core.List.{List, [], _∷_}
 use mathlib.Core.Option.{Option, none}
 use mathlib.Core.Path.{_≡_, refl, sym, ap, ap₂, _∙_}
@@ -14,7 +14,7 @@ use lib.ListN.{length, take, drop, length-take, length-drop}
 use lib.Seq.{sets, take-all, drop-drop}
 use Rattle.capture.specs.Counts.{next}
 use Rattle.common.proofs.Bools.{either}
-use Rattle.common.specs.Refusals.{Refusal, guarded}
+use Rattle.common.proofs.Refusals.{guarded-both}
 use Rattle.line.proofs.Chunks.{scan-good}
 use Rattle.line.proofs.Gather.{gather-none, gather-some, later-zero, later-later}
 use Rattle.line.specs.Gather.{Gathered, stop, later, gatherAll, gather}
@@ -24,11 +24,11 @@ use Rattle.listing.proofs.Line.{text-room}
 use Rattle.listing.specs.Line.{maxLine, textInto, textEnd, dataOf, roomOf, lineOf}
 use Rattle.qaft.specs.Answers.{done}
 use Rattle.qaft.specs.Limits.{maxLevel, maxSegment}
-use Rattle.qaft_laws.proofs.Cutting.{reportOf-outcomeOf}
-use Rattle.qaft_laws.proofs.Formed.{action-keeps}
 use Rattle.qaft_laws.proofs.Lengths.{read-fits}
+use Rattle.qaft_laws.proofs.Reader.{action-keeps, reportOf-outcomeOf}
 use Rattle.qaft_read.proofs.Refusals.{Fit, read-ind, read-taken, read-report-takes, some-reported}
-use Rattle.qaft_read.specs.Read.{action, Call, outcomeOf, callOf, scanCall, refusal, refusals, reportOf, read}
+use Rattle.qaft_read.specs.Read.{Call, outcomeOf, callOf, scanCall, refusal, refusals, reportOf, read}
+use Rattle.qaft_read.specs.Step.{action}
 use Rattle.qaft_read.specs.declared.Answer.{Answer}
 use Rattle.qaft_read.specs.declared.Reader.{Reader}
 use Rattle.qaft_report.proofs.Outcome as outcomes
@@ -72,15 +72,6 @@ scan-ended r xs m c e =
     let none-made = sym (reportOf-outcomeOf (u .report)) ∙ e in
     let same = gather-none withLine hasRoom action xs r m c none-made in
     λ i. record { number = refusalOf-none (u .report) none-made i; gathered = same i }
-
--- a test for each refusal, of two answers at once
-pub guarded-both : {A B : Type 0} (P : A → B → Type 0) (ts : List Refusal) (a : ℕ → A) (b : ℕ → B) (x : A) (y : B) → ((n : ℕ) → P (a n) (b n)) → P x y → P (guarded ts a x) (guarded ts b y)
-guarded-both P [] a b x y f h = h
-guarded-both P (t ∷ ts) a b x y f h = go (t .0) (guarded-both P ts a b x y f h)
-  where
-    go : (c : Bool) → P (guarded ts a x) (guarded ts b y) → P (cond c (a (t .1)) (guarded ts a x)) (cond c (b (t .1)) (guarded ts b y))
-    go true k = f (t .1)
-    go false k = k
 
 abbrev Ends : Lines → Lined → Call → Type 0
 Ends c d k = reportOf (k .answer .outcome) ≡ none → d ≡ ended k c

@@ -17,8 +17,9 @@ use Rattle.lister.specs.declared.Lister.{Lister}
 use Rattle.lister.specs.declared.Progress.{Progress}
 use Rattle.listing.specs.Line.{endLine, maxLine, lineOf}
 use Rattle.qaft.specs.Answers.{done, outTooSmall}
-use Rattle.qaft_read.specs.Read.{action, refusals}
+use Rattle.qaft_read.specs.Read.{refusals}
 use Rattle.qaft_read.specs.State.{fresh}
+use Rattle.qaft_read.specs.Step.{action}
 use Rattle.qaft_read.specs.declared.Reader.{Reader}
 use Rattle.qaft_report.specs.declared.Outcome.{Outcome}
 use Rattle.qaft_report.specs.declared.Outcome.the-variants.{Refused, Reported, UsedUp}

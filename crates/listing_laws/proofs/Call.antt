@@ -21,10 +21,10 @@ use Rattle.listing.proofs.Line.{length-reportLine}
 use Rattle.listing.specs.Line.{maxLine, dataOf, lineOf}
 use Rattle.listing_laws.proofs.Events.{eventLines, makeAll-lines}
 use Rattle.qaft.specs.Answers.{done}
-use Rattle.qaft_laws.proofs.Formed.{action-keeps}
 use Rattle.qaft_laws.proofs.Lengths.{action-fits}
+use Rattle.qaft_laws.proofs.Reader.{action-keeps}
 use Rattle.qaft_read.proofs.Refusals.{Fit}
-use Rattle.qaft_read.specs.Read.{action}
+use Rattle.qaft_read.specs.Step.{action}
 use Rattle.qaft_read.specs.declared.Reader.{Reader}
 use Rattle.qaft_report.specs.declared.Report.{Report}
 

@@ -18,9 +18,9 @@ use Rattle.listing_laws.proofs.Call.{list-made, made, made-partly, made
 use Rattle.listing_laws.proofs.Events.{eventLines, counted, eventLines-++, counted-++, makeAll-lines}
 use Rattle.listing_laws.specs.Caller.{Written, nothing, following, listChunk, listChunks}
 use Rattle.qaft.specs.Answers.{done}
-use Rattle.qaft_laws.proofs.Formed.{action-keeps}
+use Rattle.qaft_laws.proofs.Reader.{action-keeps}
 use Rattle.qaft_read.proofs.Refusals.{Fit}
-use Rattle.qaft_read.specs.Read.{action}
+use Rattle.qaft_read.specs.Step.{action}
 use Rattle.qaft_read.specs.declared.Reader.{Reader}
 use Rattle.qaft_report.specs.declared.Report.{Report}
 

@@ -9,6 +9,7 @@ use lib.Seq.{length-sets}
 use Rattle.capture.proofs.Whole.{counts-whole}
 use Rattle.capture.specs.Whole.{before, after}
 use Rattle.capture.specs.declared.Counts.{Counts}
+use Rattle.framing.specs.Reports.{reportsOf, shownReports}
 use Rattle.line.proofs.Trace.{trace-events}
 use Rattle.line.specs.Trace.{Event, trace}
 use Rattle.lister.specs.Lines.{freshLister, lastLine}
@@ -21,10 +22,10 @@ use Rattle.listing_laws.proofs.Events.{counted, lines-shown, counted-al
 use Rattle.listing_laws.specs.Caller.{Written, listChunks, shortText, listed}
 use Rattle.listing_laws.specs.Listing.{linesFrom, listingOf}
 use Rattle.qaft.specs.Limits.{maxLevel, maxSegment}
-use Rattle.qaft_laws.proofs.Meaning.{trace-reports, fresh-fit}
-use Rattle.qaft_laws.specs.Reports.{reportsOf, shownReports}
-use Rattle.qaft_read.specs.Read.{action}
+use Rattle.qaft_laws.proofs.Reader.{trace-reports, fresh-fit}
 use Rattle.qaft_read.specs.State.{fresh}
+use Rattle.qaft_read.specs.Step.{action}
+use Rattle.qaft_report.specs.Rules.{rules}
 use Rattle.qaft_report.specs.declared.Report.{Report}
 
 -- a short line, written where there is room for it
@@ -61,19 +62,19 @@ module _ (level : ℕ) (h : level ≤ maxLevel) (m out : List ℕ) (fits : maxSe
   lists : Lists (freshLister level) capture m headed written
   lists = chunks-list xss (freshLister level) m headed (fresh-fit level m h fits) (omega (arith, long))
 
-  shown : shownReports events ≡ reportsOf capture
+  shown : shownReports (rules level) events ≡ reportsOf (rules level) capture
   shown = trace-reports capture level m fits
 
   few-events : 0 + length events < 2 ^ 64
   few-events = omega (arith, trace-events action capture (fresh level) m)
 
-  text-is : written .text ≡ linesFrom 0 (reportsOf capture)
-  text-is = lists .text ∙ lines-shown events 0 few-events ∙ ap (linesFrom 0) shown
+  text-is : written .text ≡ linesFrom 0 (reportsOf (rules level) capture)
+  text-is = lists .text ∙ lines-shown level events 0 few-events ∙ ap (linesFrom 0) shown
 
-  number-is : counted 0 events ≡ length (reportsOf capture)
-  number-is = counted-all events 0 few-events ∙ zero-add (length events) ∙ sym (length-shown events) ∙ ap length shown
+  number-is : counted 0 events ≡ length (reportsOf (rules level) capture)
+  number-is = counted-all events 0 few-events ∙ zero-add (length events) ∙ sym (length-shown level events) ∙ ap length shown
 
-  last-is : lastLine (written .lister) ≡ endLine (length (reportsOf capture)) (before capture) (after capture)
+  last-is : lastLine (written .lister) ≡ endLine (length (reportsOf (rules level) capture)) (before capture) (after capture)
   last-is =
       ap lastLine (lists .lister)
       ∙ ap₂ (λ (n : ℕ) (c : Counts). endLine n (c .before) (c .after)) number-is (counts-whole capture few)

@@ -7,22 +7,19 @@ use Prim.Native.Nat.{ℕ, suc}
 use mathlib.Core.List.{List, [], _∷_, _++_}
 use lib.ListN.{length}
 use Rattle.capture.specs.Whole.{before, after}
+use Rattle.framing.specs.Reports.{Reported, reportsOf}
 use Rattle.listing.specs.Line.{heading, reportLine, endLine}
-use Rattle.qaft_laws.specs.Reports.{Reported, frame, aborted, long, short, badCheck, reportsOf}
-use Rattle.qaft_report.specs.declared.Report.the-variants.{Frame, Aborted, Long, Short, BadCheck}
+use Rattle.qaft_report.specs.Rules.{rules}
+use Rattle.qaft_report.specs.declared.Report.{Report}
 
 -- "1 frame 2 4041": a frame's line has the number of its data octets and the octets
-unfoldable pub textOf : (k : ℕ) → Reported → List ℕ
-textOf k (frame d) = reportLine k (Frame (length d)) d
-textOf k aborted = reportLine k Aborted []
-textOf k long = reportLine k Long []
-textOf k short = reportLine k Short []
-textOf k badCheck = reportLine k BadCheck []
+unfoldable pub textOf : (k : ℕ) → Reported Report → List ℕ
+textOf k p = reportLine k (p .report) (p .octets)
 
-unfoldable pub linesFrom : (k : ℕ) → List Reported → List ℕ
+unfoldable pub linesFrom : (k : ℕ) → List (Reported Report) → List ℕ
 linesFrom k [] = []
 linesFrom k (p ∷ ps) = textOf (suc k) p ++ linesFrom (suc k) ps
 
 -- heading, a line for each report, the last line
 unfoldable pub listingOf : (level : ℕ) (l : List ℕ) → List ℕ
-listingOf level l = heading level ++ (linesFrom 0 (reportsOf l) ++ endLine (length (reportsOf l)) (before l) (after l))
+listingOf level l = heading level ++ (linesFrom 0 (reportsOf (rules level) l) ++ endLine (length (reportsOf (rules level) l)) (before l) (after l))

@@ -1,14 +1,18 @@
 -- Document 01's [P] cases hold: each row computes. Assumes nothing.
 use mathlib.Core.Path.{refl}
-use Rattle.qaft.specs.Escape.{isEscaped, escapeOne, escape}
-use Rattle.qaft.specs.Check.{sum, checkOctet}
-use Rattle.qaft.specs.Frame.{body, frame}
-use Rattle.qaft_laws.specs.Reports.{afterFlag, atFront, segments, onto, unescape, judge, reportsOfSegment, reportsOfSegments, reportsOf}
+use Rattle.framing.specs.Reports.{afterFlag, atFront, segments, unskipped, onto, ontoPair, unescape, checkFrom, checkOf, judged, reportsOfOctets, reportsOfSegment, reportsOfSegments, reportsOf}
+use Rattle.framing.specs.Step.{joined, awaiting, storedInto, inSegmentInto, closedInto, stepInto}
+use Rattle.framing.specs.Writing.{escapedOne, escaped}
+use Rattle.framing.specs.Writing as framing
+use Rattle.octets.specs.Sum.{sum}
+use Rattle.qaft.specs.Escape.{isEscaped}
+use Rattle.qaft.specs.Check.{checkOctet}
+use Rattle.qaft.specs.Frame.{frame}
+use Rattle.qaft_report.specs.Rules.{verdict}
 use Rattle.line.specs.Scan.{after, scanOn, scan}
 use Rattle.qaft_read.specs.State.{malformed}
-use Rattle.qaft_read.specs.Verdict.{verdict}
-use Rattle.qaft_read.specs.Step.{joined, stored, awaiting, inSegment, closed, step}
-use Rattle.qaft_read.specs.Read.{actionOf, action, outcomeOf, callOf, scanCall, refusals, read}
+use Rattle.qaft_read.specs.Step.{action}
+use Rattle.qaft_read.specs.Read.{outcomeOf, callOf, scanCall, refusals, read}
 use Rattle.dlc.specs.Events.{arrivalOf}
 use Rattle.fcs.specs.Fcs.{feedBit, feedBits, feed, feedAll, checkSequence}
 use Rattle.ids.specs.Id.{validId, validSuffix, callsignLength, allGraphic, isCallsign, isGraphic}
@@ -18,5 +22,5 @@ use Rattle.afp_write.specs.Frame.{frameOf, headerBefore, headerOf, withCheck}
 use Rattle.paper.specs.Table.{Each, table}
 
 pub cases : Each table
-unfolding table read refusals scanCall callOf outcomeOf scan scanOn after action actionOf malformed step closed verdict inSegment awaiting stored joined frame body escape escapeOne isEscaped checkOctet sum reportsOf reportsOfSegments reportsOfSegment judge unescape onto segments atFront afterFlag arrivalOf sumFrom frameOf withCheck headerOf headerBefore headerSum nextOffset nextStationSum stationsOf stationsFrom nextAfter closedAt validId validSuffix callsignLength allGraphic isCallsign isGraphic checkSequence feedAll feed feedBits feedBit
+unfolding table read refusals scanCall callOf outcomeOf scan scanOn after action malformed stepInto closedInto inSegmentInto storedInto awaiting joined verdict frame framing.frame escaped escapedOne isEscaped checkOctet sum reportsOf reportsOfSegments reportsOfSegment reportsOfOctets judged unescape onto ontoPair checkOf checkFrom unskipped segments atFront afterFlag arrivalOf sumFrom frameOf withCheck headerOf headerBefore headerSum nextOffset nextStationSum stationsOf stationsFrom nextAfter closedAt validId validSuffix callsignLength allGraphic isCallsign isGraphic checkSequence feedAll feed feedBits feedBit
 cases = ((refl, (refl, refl)), ((refl, (refl, refl)), ((refl, (refl, refl)), ((refl, (refl, refl)), ((refl, (refl, refl)), ((refl, (refl, refl)), ((refl, (refl, refl)), ((refl, (refl, refl)), ((refl, (refl, refl)), ((refl, (refl, refl)), (refl, (refl, (refl, (refl, tt))))))))))))))

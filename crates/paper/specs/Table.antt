@@ -4,6 +4,7 @@ use mathlib.Core.Path.{_≡_}
 use mathlib.Core.Bool.{true, false}
 use mathlib.Core.List.{List, [], _∷_, _++_}
 use lib.ListN.{replicate}
+use Rattle.framing.specs.Reports.{reportsOf}
 use Rattle.dlc.specs.declared.State.the-variants.{Data, Wait}
 use Rattle.dlc.specs.Limits.{replySize, dackPacket}
 use Rattle.dlc.specs.Answers.{done, noEntry}
@@ -18,14 +19,16 @@ use Rattle.qaft.specs.Answers as answers
 use Rattle.qaft_read.specs.State.{fresh}
 use Rattle.qaft_read.specs.Read.{read}
 use Rattle.qaft_report.specs.Answer.{number, dataLength, shown}
-use Rattle.qaft_laws.specs.Reports.{Reported, aborted, short, badCheck, reportsOf}
+use Rattle.qaft_report.specs.Rules.{rules}
+use Rattle.qaft_report.specs.declared.Report.{Report}
+use Rattle.qaft_report.specs.declared.Report.the-variants.{Aborted, Short, BadCheck}
 
 -- a row of the table
 pub data Case : Type 0 where
   -- a frame, written and read: level, data, the octets on a line that does not stand at a flag
   frames : (level : ℕ) (d l : List ℕ) → Case
   -- a stretch between two flags, its report, and the number that the reader gives
-  reports : (s : List ℕ) → Reported → (n : ℕ) → Case
+  reports : (s : List ℕ) → Report → (n : ℕ) → Case
   -- DLC: a link to which a packet comes, with a reply buffer that is just large enough, and what the event does
   arrives : (m : Model) (packet : List ℕ) → Effect → Case
   -- AFP: octets and their sum
@@ -46,7 +49,7 @@ between s = flag ∷ s ++ (flag ∷ [])
 -- what a row claims
 abbrev pub Holds : Case → Type 0
 Holds (frames level d l) = (frame level false d ≡ l) × Reads level l answers.frame d
-Holds (reports s p n) = (reportsOf (between s) ≡ p ∷ []) × Reads 0 (between s) n []
+Holds (reports s p n) = (reportsOf (rules 0) (between s) ≡ record { report = p; octets = [] } ∷ []) × Reads 0 (between s) n []
 Holds (arrives m packet e) = arrivalOf m packet replySize ≡ e
 Holds (sums xs s) = sumFrom 0 xs ≡ s
 Holds (heads p s n h header check) = frameOf p s n h [] ≡ header ++ check
@@ -74,9 +77,9 @@ table =
     ∷ frames 0 (0x11 ∷ []) (0x7E ∷ 0x11 ∷ 0xEF ∷ 0x7E ∷ [])
     ∷ frames 1 (0x11 ∷ []) (0x7E ∷ 0x7D ∷ 0x31 ∷ 0xEF ∷ 0x7E ∷ [])
     ∷ frames 1 (0xED ∷ []) (0x7E ∷ 0xED ∷ 0x7D ∷ 0x33 ∷ 0x7E ∷ [])
-    ∷ reports (0x10 ∷ 0x7D ∷ []) aborted 11
-    ∷ reports (0x00 ∷ []) short 13
-    ∷ reports (0x41 ∷ 0xBE ∷ []) badCheck 14
+    ∷ reports (0x10 ∷ 0x7D ∷ []) Aborted 11
+    ∷ reports (0x00 ∷ []) Short 13
+    ∷ reports (0x41 ∷ 0xBE ∷ []) BadCheck 14
     ∷ arrives waiting (dackPacket 0) (effect done [] emptied)
     ∷ arrives waiting (dackPacket 1) (refuse waiting noEntry)
     ∷ sums (0x04 ∷ 0x41 ∷ 0x42 ∷ 0x31 ∷ 0x43 ∷ []) 0xFB

@@ -1,51 +1,18 @@
--- Laws of escaping. Assumes nothing.
-use Prim.Native.Nat.{ℕ, _+_, _*_, _≤_, _<_}
-use mathlib.Core.Bool.{true, false, _&&_, _||_}
-use mathlib.Core.List.{List, [], _∷_, _++_, append-assoc, List·Memᴰ, List·Memᴰ·append-cases, List·Memᴰ·cases-cons, List·Memᴰ·eq-of-singleton, List·Memᴰ·not-nil}
+-- Laws of the octets that a level escapes, and of the four that its writer and reader go by. Assumes nothing.
+use Prim.Native.Nat.{ℕ}
+use mathlib.Core.Bool.{Bool, true, false, cond, _&&_, _||_}
+use mathlib.Core.List.{List}
 use mathlib.Core.Logic.{⊎-elim}
-use mathlib.Core.Path.{_≡_, refl, sym, subst}
-use native.Mathlib.Numerals.{add-one}
+use mathlib.Core.Path.{_≡_, refl, sym, ap, subst, _∙_}
 use native.Mathlib.Omega.{arith}
-use borrow.Author.Tests.{eqb-true, eqb-false}
+use borrow.Author.Tests.{eqb-true}
 use lib.Dec.{eqb}
-use lib.ListN.{length, getD, drop, drop-of-length-le, length-append}
-use lib.Seq.{drop-cons}
-use Rattle.common.proofs.Bools.{either, or-true, or-false-left, or-false-right, and-true-right}
-use Rattle.qaft.specs.Escape.{flag, escapeOctet, xon, xoff, masked, isEscaped, escapeOne, escape}
-
-module _ (level x : ℕ) where
-  pub escapeOne-pair : isEscaped level x ≡ true → escapeOne level x ≡ escapeOctet ∷ masked x ∷ []
-  unfolding escapeOne
-  escapeOne-pair e = rw e
-
-  pub escapeOne-plain : isEscaped level x ≡ false → escapeOne level x ≡ x ∷ []
-  unfolding escapeOne
-  escapeOne-plain e = rw e
-
-  -- an octet takes one place on the line, or two
-  pub length-escapeOne : length (escapeOne level x) ≤ 2
-  unfolding escapeOne
-  length-escapeOne = either (λ (ys : List ℕ). length ys ≤ 2) (isEscaped level x) (λ _. omega arith) (λ _. omega arith)
-
-pub escape-++ : (level : ℕ) (xs ys : List ℕ) → escape level (xs ++ ys) ≡ escape level xs ++ escape level ys
-unfolding escape
-escape-++ level [] ys = refl
-escape-++ level (x ∷ xs) ys = rw (append-assoc (escapeOne level x) (escape level xs) (escape level ys), escape-++ level xs ys)
-
-pub length-escape : (level : ℕ) (xs : List ℕ) → length (escape level xs) ≤ 2 * length xs
-unfolding escape
-length-escape level [] = omega arith
-length-escape level (x ∷ xs) = omega (arith, length-append (escapeOne level x) (escape level xs), length-escapeOne level x, length-escape level xs)
-
--- a loop that stands at octet i: what is left to write
-module _ (level : ℕ) (xs : List ℕ) (i : ℕ) where
-  pub escape-end : length xs ≤ i → escape level (drop i xs) ≡ []
-  unfolding escape
-  escape-end h = rw (drop-of-length-le xs h)
-
-  pub escape-next : i < length xs → escape level (drop i xs) ≡ escapeOne level (getD xs i 0) ++ escape level (drop (i + 1) xs)
-  unfolding escape
-  escape-next h = rw (add-one, drop-cons xs i 0 h)
+use Rattle.common.proofs.Bools.{or-true, or-false-left, or-false-right, and-true-right}
+use Rattle.escapes.specs.Escapes as escapes
+use Rattle.escapes.specs.Escapes.{writingOf}
+use Rattle.framing.proofs.Frames.{Alike, frame-alike}
+use Rattle.framing.specs.Writing.{frame}
+use Rattle.qaft.specs.Escape.{flag, escapeOctet, xon, xoff, masked, isEscaped, writing, withOthers, escapesOf}
 
 -- what holds of the four octets that some level escapes holds of every escaped octet
 pub isEscaped-ind : (P : ℕ → Type 0) (level x : ℕ) → isEscaped level x ≡ true → P flag → P escapeOctet → P xon → P xoff → P x
@@ -72,15 +39,40 @@ pub escaped-octet : (level x : ℕ) → isEscaped level x ≡ true → (eqb (mas
 escaped-octet level x e =
     isEscaped-ind (λ (y : ℕ). (eqb (masked y) flag ≡ false) × (masked (masked y) ≡ y)) level x e (refl, refl) (refl, refl) (refl, refl) (refl, refl)
 
--- no flag among escaped octets
-escapeOne-no-flag : (level x : ℕ) → List·Memᴰ flag (escapeOne level x) → ⊥
-unfolding escapeOne
-escapeOne-no-flag level x =
-    either (λ (ys : List ℕ). List·Memᴰ flag ys → ⊥) (isEscaped level x)
-    (λ e h. ⊎-elim (λ q. omega (arith, q)) (λ k. eqb-false (masked x) flag (escaped-octet level x e .0) (sym (List·Memᴰ·eq-of-singleton k))) (List·Memᴰ·cases-cons h))
-    (λ e h. eqb-false x flag (plain-octet level x e .0) (sym (List·Memᴰ·eq-of-singleton h)))
+-- ---- the four octets by which a level's writer and reader go
+module _ (third fourth : ℕ) where
+  -- behind the escape stands each of them masked
+  behind-masked : (x : ℕ) → escapes.isEscaped (withOthers third fourth) x ≡ true → escapes.behind (withOthers third fourth) x ≡ masked x
+  unfolding escapes.isEscaped escapes.behind withOthers
+  behind-masked x = by (eqb x flag) refl (eqb x escapeOctet) refl (eqb x third) refl (eqb x fourth) refl
+    where
+      by : (a : Bool) → eqb x flag ≡ a → (b : Bool) → eqb x escapeOctet ≡ b → (c : Bool) → eqb x third ≡ c → (d : Bool) → eqb x fourth ≡ d
+          → (a || (b || (c || d))) ≡ true → cond a (masked flag) (cond b (masked escapeOctet) (cond c (masked third) (masked fourth))) ≡ masked x
+      by true p b q c r d s e = ap masked (sym (eqb-true x flag p))
+      by false p true q c r d s e = ap masked (sym (eqb-true x escapeOctet q))
+      by false p false q true r d s e = ap masked (sym (eqb-true x third r))
+      by false p false q false r true s e = ap masked (sym (eqb-true x fourth s))
+      by false p false q false r false s e = let z : _≡_ {A = ℕ} 0 1 = cc in absurd (omega arith)
 
-pub escape-no-flag : (level : ℕ) (xs : List ℕ) → List·Memᴰ flag (escape level xs) → ⊥
-unfolding escape
-escape-no-flag level [] h = List·Memᴰ·not-nil h
-escape-no-flag level (x ∷ xs) h = ⊎-elim (escapeOne-no-flag level x) (escape-no-flag level xs) (List·Memᴰ·append-cases (escapeOne level x) h)
+  -- where they are those that the level escapes, they write as it does
+  withOthers-alike : (level : ℕ) → ((x : ℕ) → escapes.isEscaped (withOthers third fourth) x ≡ isEscaped level x) → Alike (writingOf (withOthers third fourth)) (writing level)
+  unfolding withOthers
+  withOthers-alike level h = record { flag-is = refl; escape-is = refl; escapes-is = h; behind-is = λ x e. behind-masked x (h x ∙ e) }
+
+-- the flag and the escape once more change nothing
+twice : (a b : Bool) → (a || (b || (a || b))) ≡ (a || (b || false))
+twice true b = refl
+twice false true = refl
+twice false false = refl
+
+module _ (level : ℕ) where
+  escapesOf-alike : Alike (writingOf (escapesOf level)) (writing level)
+  unfolding escapesOf escapes.isEscaped isEscaped withOthers
+  escapesOf-alike = by (eqb level 1) refl
+    where
+      by : (b : Bool) → eqb level 1 ≡ b → Alike (writingOf (cond b (withOthers xon xoff) (withOthers flag escapeOctet))) (writing level)
+      by true e = withOthers-alike xon xoff level (λ x. rw e)
+      by false e = withOthers-alike flag escapeOctet level (λ x. rw e (twice (eqb x flag) (eqb x escapeOctet)))
+
+  pub frame-escapesOf : (atFlag : Bool) (b : List ℕ) → frame (writingOf (escapesOf level)) atFlag b ≡ frame (writing level) atFlag b
+  frame-escapesOf atFlag b = frame-alike _ _ escapesOf-alike atFlag b

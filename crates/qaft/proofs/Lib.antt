@@ -1,4 +1,3 @@
 pub mod Escape
-pub mod Plain
 pub mod Check
 pub mod Frame

@@ -1,11 +1,7 @@
 -- QAFT: the check octet. Cited by the check's and the frame's definitions. Assumes nothing.
-use Prim.Native.Nat.{ℕ, _+_, _-_, _%_}
-use mathlib.Core.List.{List, [], _∷_}
-
--- the sum of octets, of any size
-unfoldable pub sum : List ℕ → ℕ
-sum [] = 0
-sum (x ∷ xs) = x + sum xs
+use Prim.Native.Nat.{ℕ, _-_, _%_}
+use mathlib.Core.List.{List}
+use Rattle.octets.specs.Sum.{sum}
 
 -- "the two's complement of their sum modulo 256"
 unfoldable pub checkOctet : List ℕ → ℕ

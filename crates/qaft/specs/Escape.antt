@@ -1,9 +1,10 @@
 -- QAFT: octets on the line, and which of them are escaped. Cited by the writer's and the reader's definitions. Assumes nothing.
 use Prim.Native.Nat.{ℕ}
-use mathlib.Core.Bool.{Bool, true, false, cond, _&&_, _||_}
-use mathlib.Core.List.{List, [], _∷_, _++_}
+use mathlib.Core.Bool.{Bool, cond, _&&_, _||_}
 use lib.Bits.{bitXor}
 use lib.Dec.{eqb}
+use Rattle.escapes.specs.declared.Escapes.{Escapes}
+use Rattle.framing.specs.Writing.{Writing}
 
 -- "flag 7E, escape 7D"
 abbrev pub flag : ℕ
@@ -20,23 +21,33 @@ abbrev pub xoff : ℕ
 xoff = 0x13
 
 -- an octet as it stands behind an escape, and the octet that such a one stands for: "the octet xor 20"
+abbrev pub mask : ℕ
+mask = 0x20
+
 abbrev pub masked : ℕ → ℕ
-masked x = bitXor x 0x20
+masked x = bitXor x mask
 
 -- "level 0 replaces 7E and 7D. Level 1 does it for 11 and 13 also."
 unfoldable pub isEscaped : (level x : ℕ) → Bool
 isEscaped level x = eqb x flag || (eqb x escapeOctet || (eqb level 1 && (eqb x xon || eqb x xoff)))
 
--- one octet on the line: itself, or "7D and the octet xor 20"
-unfoldable pub escapeOne : (level x : ℕ) → List ℕ
-escapeOne level x = cond (isEscaped level x) (escapeOctet ∷ masked x ∷ []) (x ∷ [])
+-- how a level writes: an octet is itself, or "7D and the octet xor 20"
+abbrev pub writing : (level : ℕ) → Writing
+writing level = record { flag = flag; escape = escapeOctet; escapes = isEscaped level; behind = masked }
 
--- octets on the line
-unfoldable pub escape : (level : ℕ) → List ℕ → List ℕ
-escape level [] = []
-escape level (x ∷ xs) = escapeOne level x ++ escape level xs
+-- the same as four octets, each with what stands for it behind the escape: the flag, the escape, and two others
+unfoldable pub withOthers : (third fourth : ℕ) → Escapes
+withOthers third fourth = record {
+  flag = flag;
+  escape = escapeOctet;
+  third = third;
+  fourth = fourth;
+  «behind_flag» = masked flag;
+  «behind_escape» = masked escapeOctet;
+  «behind_third» = masked third;
+  «behind_fourth» = masked fourth;
+}
 
--- whether a level escapes no octet of a list, so that they go on the line as they are
-unfoldable pub plain : (level : ℕ) → List ℕ → Bool
-plain level [] = true
-plain level (x ∷ xs) = cond (isEscaped level x) false (plain level xs)
+-- the others are 11 and 13 at level 1; at level 0 there are none, and the flag and the escape stand there once more
+unfoldable pub escapesOf : (level : ℕ) → Escapes
+escapesOf level = cond (eqb level 1) (withOthers xon xoff) (withOthers flag escapeOctet)

@@ -2,9 +2,9 @@
 // and the check octet. Definitions: specs/Escape, specs/Check; a frame and a line of frames: specs/Frame.
 ghost use mathlib.Core.Path.{_≡_};
 ghost use Prim.Native.Nat.{_-_, _%_};
-ghost use mathlib.Core.Bool.{false, cond};
-ghost use Rattle.qaft.specs.Escape.{isEscaped, plain};
+ghost use Rattle.qaft.specs.Escape.{withOthers, escapesOf};
 ghost use Rattle.qaft.specs.Check.{checkOctet};
+use escapes::Escapes;
 
 pub const FLAG: u8 = 0x7E;
 
@@ -54,45 +54,30 @@ pub const BAD_CHECK: u8 = 14;
 
 pub const USED_UP: u8 = 15;
 
-// Whether a level escapes an octet.
-pub fn is_escaped(level: u8, x: u8) -> bool
-    ensures { λ r. ⌜ r ≡ isEscaped level x ⌝ }
+// The octets that a level escapes.
+pub fn escapes(level: u8) -> Escapes
+    ensures { λ r. ⌜ r ≡ escapesOf level ⌝ }
 {
-    if x == FLAG {
-        return true;
-    }
-    if x == ESCAPE {
-        return true;
-    }
     if level == 1 {
-        if x == XON {
-            return true;
-        }
-        return x == XOFF;
+        return with_others(XON, XOFF);
     }
-    false
+    with_others(FLAG, ESCAPE)
 }
 
-// Whether the level escapes none of the octets. All are looked at, so that there is no branch among them.
-pub fn all_plain(level: u8, octets: &[u8]) -> bool
-    ensures { λ r. ⌜ r ≡ plain level (now (octets .entry)) ⌝ }
+// The flag, the escape and two others.
+fn with_others(third: u8, fourth: u8) -> Escapes
+    ensures { λ r. ⌜ r ≡ withOthers third fourth ⌝ }
 {
-    let mut so_far = true;
-    let mut i = 0;
-    while i < octets.len() {
-        so_far = and_plain(so_far, level, octets[i]);
-        i += 1;
+    Escapes {
+        flag: FLAG,
+        escape: ESCAPE,
+        third,
+        fourth,
+        behind_flag: FLAG ^ MASK,
+        behind_escape: ESCAPE ^ MASK,
+        behind_third: third ^ MASK,
+        behind_fourth: fourth ^ MASK,
     }
-    so_far
-}
-
-fn and_plain(so_far: bool, level: u8, x: u8) -> bool
-    ensures { λ r. ⌜ r ≡ cond (isEscaped level x) false «so_far» ⌝ }
-{
-    if is_escaped(level, x) {
-        return false;
-    }
-    so_far
 }
 
 // The wrapping negate: the two's complement of an octet.
@@ -106,11 +91,5 @@ fn wrapping_neg_u8(x: u8) -> u8
 pub fn check_octet(octets: &[u8]) -> u8
     ensures { λ r. ⌜ r ≡ checkOctet (now (octets .entry)) ⌝ }
 {
-    let mut sum: u8 = 0;
-    let mut i = 0;
-    while i < octets.len() {
-        sum = std::num::wrapping_add_u8(sum, octets[i]);
-        i += 1;
-    }
-    wrapping_neg_u8(sum)
+    wrapping_neg_u8(octets::sum(octets))
 }

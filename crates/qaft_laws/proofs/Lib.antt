@@ -1,9 +1,4 @@
-pub mod Formed
+pub mod Rules
+pub mod Reader
 pub mod Lengths
-pub mod Cutting
-pub mod Segments
-pub mod Within
-pub mod Meaning
-pub mod Written
-pub mod Stored
 pub mod Theorems

@@ -5,32 +5,41 @@
 use Prim.Native.Nat.{ℕ, _≤_}
 use mathlib.Core.Bool.{Bool, true, false}
 use mathlib.Core.List.{List, [], _∷_, map, flatten}
+use mathlib.Core.Logic.{⊎-elim}
 use mathlib.Core.Path.{_≡_, refl, sym, ap, ap₂, _∙_}
 use lib.Dec.{ltb}
 use lib.ListN.{length}
 use lib.Seq.{sets}
 use Rattle.common.proofs.Refusals.{guarded-map}
 use Rattle.common.specs.Refusals.{guarded}
+use Rattle.framing.proofs.Stored.{scan-stored}
+use Rattle.framing.proofs.Theorems as framing
+use Rattle.framing.proofs.Written.{reportsOf-frames}
+use Rattle.framing.specs.Reports.{reportsOf, shownReports}
+use Rattle.framing.specs.Step.{step}
+use Rattle.framing.specs.Step as steps
+use Rattle.framing.specs.Stored.{undoneIn}
+use Rattle.line.proofs.Chunks.{scan-good, readChunks-idle}
 use Rattle.line.proofs.Scan.{apart, scan-apart}
+use Rattle.line.proofs.Simulation.{scan-simulates}
 use Rattle.line.proofs.Trace.{onwards, trace-scan}
 use Rattle.line.specs.Scan.{Scan}
 use Rattle.line.specs.Trace.{Trace, trace, noEvent, readChunks}
 use Rattle.qaft.specs.Answers.{badLevel, bufferTooSmall, badState}
-use Rattle.qaft.specs.Frame.{line}
+use Rattle.qaft.specs.Escape.{writing}
+use Rattle.qaft.specs.Frame.{sealed, line}
 use Rattle.qaft.specs.Limits.{maxLevel, maxSegment}
-use Rattle.qaft_laws.proofs.Cutting.{readScan-scan, cuttings}
-use Rattle.qaft_laws.proofs.Formed.{read-formed}
-use Rattle.qaft_laws.proofs.Meaning.{meaning}
-use Rattle.qaft_laws.proofs.Stored.{scan-stored}
-use Rattle.qaft_laws.proofs.Written.{reportsOf-line}
-use Rattle.qaft_laws.specs.Reports.{frame, reportsOf, shownReports}
-use Rattle.qaft_laws.specs.Stored.{undoneIn}
-use Rattle.qaft_read.proofs.Refusals.{Fit}
-use Rattle.qaft_read.specs.Read.{action, Call, callOf, scanCall, refusal, refusals, read, readScan}
-use Rattle.qaft_read.specs.State.{fresh, malformed}
+use Rattle.qaft_laws.proofs.Reader.{fit-view, action-keeps, readScan-scan, calls, fit-or-refused}
+use Rattle.qaft_laws.proofs.Rules.{lawful, undoes, all-accepted}
+use Rattle.qaft_read.proofs.Refusals.{Fit, read-ind}
+use Rattle.qaft_read.proofs.Scanning.{commutes}
+use Rattle.qaft_read.specs.Read.{Call, callOf, scanCall, refusal, refusals, read, readScan}
+use Rattle.qaft_read.specs.State.{fresh, view, place, malformed}
+use Rattle.qaft_read.specs.Step.{action}
 use Rattle.qaft_read.specs.declared.Answer.{Answer}
-use Rattle.qaft_report.specs.declared.Outcome.the-variants.{Refused}
 use Rattle.qaft_read.specs.declared.Reader.{Reader}
+use Rattle.qaft_report.specs.Rules.{rules, framed}
+use Rattle.qaft_report.specs.declared.Outcome.the-variants.{Refused}
 use Rattle.qaft_report.specs.declared.Report.{Report}
 use Rattle.qaft_write.proofs.Sending.{done-wrote, octetsOf, done-writable, sent-line}
 use Rattle.qaft_write.specs.Sending.{Lent, sent, AllDone}
@@ -39,40 +48,49 @@ use Rattle.qaft_write.specs.Sending.{Lent, sent, AllDone}
 -- data, the same last state and the same last buffer; from every state and with every buffer, refused ones too.
 pub every-cutting-reads-alike : (xss yss : List (List ℕ)) → flatten xss ≡ flatten yss → (r : Reader) (m : List ℕ)
     → readChunks readScan r xss m ≡ readChunks readScan r yss m
-every-cutting-reads-alike xss yss e r m = cuttings xss yss e r m
+every-cutting-reads-alike xss yss e r m =
+    let l = r .level in
+    ⊎-elim
+    (λ h. framing.every-cutting-reads-alike (rules l) (lawful l) (place l) action (commutes l) readScan (calls l (h .level)) xss yss e (view r) m (fit-view r m h))
+    (λ f. readChunks-idle readScan r m f xss ∙ sym (readChunks-idle readScan r m f yss))
+    (fit-or-refused r m)
 
 -- 2. Meaning: what a caller gets of a line is what the line reports by the paper's sentences, data included, at both levels, with any buffer
 -- of 2,561 octets or more, whatever it holds, and however the line is cut.
 pub reads-what-the-line-reports : (level : ℕ) → level ≤ maxLevel → (m : List ℕ) → maxSegment ≤ length m → (l : List ℕ) (xss : List (List ℕ)) → flatten xss ≡ l
-    → shownReports (readChunks readScan (fresh level) xss m .events) ≡ reportsOf l
-reads-what-the-line-reports level h m room l xss e = meaning level h m room l xss e
+    → shownReports (rules level) (readChunks readScan (fresh level) xss m .events) ≡ reportsOf (rules level) l
+reads-what-the-line-reports level h m room l xss e =
+    framing.reads-what-the-line-reports (rules level) (lawful level) (place level) action (commutes level) readScan (calls level h) m room l xss e
 
 -- 3. Buffer: after a call that is not refused the octets undone in the call stand from the index that the count gives, up to 2,561 octets,
 -- and the others are as before; a refused call leaves the buffer alone.
 pub buffer-after-a-call : (r : Reader) (xs m : List ℕ)
-    → read r xs m .buffer ≡ guarded (refusals r (length m)) (λ _. m) (sets m (r .count) (undoneIn r xs))
-unfolding read refusals refusal scanCall callOf
+    → read r xs m .buffer ≡ guarded (refusals r (length m)) (λ _. m) (sets m (r .count) (undoneIn (rules (r .level)) (view r) xs))
+unfolding read refusals refusal scanCall callOf malformed steps.malformed
 buffer-after-a-call r xs m = by-tests (ltb maxLevel (r .level)) (ltb (length m) maxSegment) (malformed r) refl
   where
     by-tests : (a b c : Bool) → malformed r ≡ c
         → guarded ((a, badLevel) ∷ (b, bufferTooSmall) ∷ (c, badState) ∷ []) (refusal r m) (scanCall r xs m) .buffer
-        ≡ guarded ((a, badLevel) ∷ (b, bufferTooSmall) ∷ (c, badState) ∷ []) (λ _. m) (sets m (r .count) (undoneIn r xs))
+        ≡ guarded ((a, badLevel) ∷ (b, bufferTooSmall) ∷ (c, badState) ∷ []) (λ _. m) (sets m (r .count) (undoneIn (rules (r .level)) (view r) xs))
     by-tests true b c e = refl
     by-tests false true c e = refl
     by-tests false false true e = refl
-    by-tests false false false e = scan-stored r xs m e
+    by-tests false false false e =
+        ap (λ (u : Scan Reader Report). u .buffer) (scan-simulates (place (r .level)) (λ p. p) (step (rules (r .level))) action (commutes (r .level)) xs (view r) m)
+        ∙ scan-stored (rules (r .level)) (lawful (r .level)) (view r) xs m e
 
 -- 4. Demand 2: frames that were written one after another, each call answered with 0 and with any out buffer of its own, come back when they are
 -- read at the same level, exactly and in order, however what was written is cut, and whatever the reader's buffer holds.
 pub written-then-read : (level : ℕ) (cs : List Lent) → AllDone level false cs
     → (m : List ℕ) → maxSegment ≤ length m → (xss : List (List ℕ)) → flatten xss ≡ sent level false cs
-    → shownReports (readChunks readScan (fresh level) xss m .events) ≡ map frame (octetsOf cs)
-unfolding sent readChunks noEvent shownReports flatten
-written-then-read level [] ok m fits xss e = ap (λ (t : Trace Reader Report). shownReports (t .events)) (every-cutting-reads-alike xss [] e (fresh level) m)
+    → shownReports (rules level) (readChunks readScan (fresh level) xss m .events) ≡ map framed (octetsOf cs)
+unfolding sent readChunks noEvent shownReports flatten line
+written-then-read level [] ok m fits xss e = ap (λ (t : Trace Reader Report). shownReports (rules level) (t .events)) (every-cutting-reads-alike xss [] e (fresh level) m)
 written-then-read level (c ∷ cs) ok m fits xss e =
     let h = done-wrote level false (c .octets) (c .out) (ok .0) .level-good in
     let ds = octetsOf (c ∷ cs) in
-    reads-what-the-line-reports level h m fits (line level ds) xss (e ∙ sent-line level (c ∷ cs) ok) ∙ reportsOf-line level ds (done-writable level false (c ∷ cs) ok)
+    reads-what-the-line-reports level h m fits (line level ds) xss (e ∙ sent-line level (c ∷ cs) ok)
+    ∙ reportsOf-frames (rules level) (writing level) (undoes level) sealed framed ds (all-accepted level ds (done-writable level false (c ∷ cs) ok))
 
 -- What a consumer of reports needs: a call and then the rest of the chunk are the trace of the chunk, for a state and a buffer that no call refuses.
 pub read-then-rest : (r : Reader) (xs m : List ℕ) → Fit r m → trace action r xs m ≡ onwards xs (trace action) (readScan r xs m)
@@ -81,7 +99,9 @@ read-then-rest r xs m h = trace-scan action xs r m ∙ ap (onwards xs (trace act
 -- 5. A well formed state stays well formed, whatever the chunk and the buffer; among them a fresh state, the highest count, and a 7D pending
 -- before any octet of a segment.
 pub stays-well-formed : (r : Reader) (xs m : List ℕ) → malformed r ≡ false → malformed (read r xs m .answer .reader) ≡ false
-stays-well-formed r xs m e = read-formed r xs m e
+unfolding refusal scanCall callOf
+stays-well-formed r xs m e =
+    read-ind r xs m (λ (k : Call). malformed (k .answer .reader) ≡ false) (λ _. e) (λ h. scan-good action Fit action-keeps xs r m h .formed)
 
 pub corners-are-well-formed :
     ((level : ℕ) → malformed (fresh level) ≡ false)

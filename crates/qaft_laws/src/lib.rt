@@ -1,1 +1,1 @@
-// No code: what a whole line reports (specs/Reports), and the theorems on reading (proofs/Theorems).
+// No code: the theorems on reading QAFT (proofs/Theorems), from those of every flagged line (the crate framing).

@@ -7,7 +7,8 @@ use mathlib.Core.Option.{Option, none, some}
 use mathlib.Core.Path.{_≡_, refl, ap, _∙_}
 use Rattle.qaft_report.specs.Answer.{number, dataLength}
 use Rattle.qaft_report.specs.declared.Report.{Report}
-use Rattle.qaft_read.specs.Read.{action, Call, outcomeOf, callOf, scanCall, refusal, read}
+use Rattle.qaft_read.specs.Read.{Call, outcomeOf, callOf, scanCall, refusal, read}
+use Rattle.qaft_read.specs.Step.{action}
 use Rattle.line.specs.Scan.{scan}
 use Rattle.qaft_read.proofs.Refusals.{read-ind}
 use Rattle.qaft_read.specs.declared.Answer.{Answer}

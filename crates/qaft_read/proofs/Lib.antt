@@ -1,3 +1,3 @@
-pub mod Steps
+pub mod SharedRule
+pub mod Scanning
 pub mod Refusals
-pub mod Runs

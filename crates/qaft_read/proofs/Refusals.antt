@@ -13,8 +13,9 @@ use Rattle.line.proofs.Scan.{scan-taken, scan-report-takes}
 use Rattle.line.specs.Scan.{scan}
 use Rattle.qaft.specs.Answers.{bufferTooSmall, badState, badLevel}
 use Rattle.qaft.specs.Limits.{maxLevel, maxSegment}
-use Rattle.qaft_read.specs.Read.{action, Call, outcomeOf, callOf, scanCall, refusal, refusals, read}
+use Rattle.qaft_read.specs.Read.{Call, outcomeOf, callOf, scanCall, refusal, refusals, read}
 use Rattle.qaft_read.specs.State.{malformed}
+use Rattle.qaft_read.specs.Step.{action}
 use Rattle.qaft_report.specs.declared.Outcome.the-variants.{Reported}
 use Rattle.qaft_read.specs.declared.Reader.{Reader}
 use Rattle.qaft_report.specs.declared.Report.{Report}

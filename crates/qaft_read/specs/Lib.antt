@@ -1,5 +1,4 @@
 pub mod State
-pub mod Verdict
 pub mod Step
-pub mod Run
+pub mod Scanned
 pub mod Read

@@ -5,28 +5,16 @@ use mathlib.Core.Option.{Option, none, some}
 use lib.Dec.{ltb}
 use lib.ListN.{length}
 use Rattle.common.specs.Refusals.{Refusal, guarded}
-use Rattle.line.specs.Scan.{advance, store, emit, Scan, scan}
-use Rattle.line.specs.Scan as line
+use Rattle.line.specs.Scan.{Scan, scan}
 use Rattle.qaft.specs.Answers.{bufferTooSmall, badState, badLevel}
 use Rattle.qaft.specs.Limits.{maxLevel, maxSegment}
 use Rattle.qaft_read.specs.State.{malformed}
-use Rattle.qaft_read.specs.Step.{step}
-use Rattle.qaft_read.specs.declared.Action.{Action}
-use Rattle.qaft_read.specs.declared.Action.the-variants.{Advance, Store, Emit}
+use Rattle.qaft_read.specs.Step.{action}
 use Rattle.qaft_read.specs.declared.Answer.{Answer}
 use Rattle.qaft_report.specs.declared.Outcome.{Outcome}
 use Rattle.qaft_report.specs.declared.Outcome.the-variants.{Refused, Reported, UsedUp}
 use Rattle.qaft_read.specs.declared.Reader.{Reader}
 use Rattle.qaft_report.specs.declared.Report.{Report}
-
--- the step as an action of the generic reader of the crate line
-unfoldable pub actionOf : Action → line.Action Reader Report
-actionOf (Advance r) = advance r
-actionOf (Store r i x) = store r i x
-actionOf (Emit p r) = emit p r
-
-unfoldable pub action : Reader → (x : ℕ) → line.Action Reader Report
-action r x = actionOf (step r x)
 
 -- a call: its answer, and the buffer after it
 pub record Call : Type 0 where

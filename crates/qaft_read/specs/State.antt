@@ -8,6 +8,7 @@
 use Prim.Native.Nat.{ℕ}
 use mathlib.Core.Bool.{Bool, true, false, not, _&&_, _||_}
 use lib.Dec.{ltb, eqb}
+use Rattle.framing.specs.Rules.{State}
 use Rattle.qaft.specs.Limits.{countCap}
 use Rattle.qaft_read.specs.declared.Reader.{Reader}
 
@@ -18,6 +19,13 @@ fresh level = record { level = level; synced = false; pending = false; count = 0
 -- after a flag, which opens a segment
 abbrev pub opened : Reader → Reader
 opened r = record { level = r .level; synced = true; pending = false; count = 0; sum = 0 }
+
+-- the state as framing has it, which knows no level, and the place of one of framing's among the reader's
+abbrev pub view : Reader → State ℕ
+view r = record { synced = r .synced; pending = r .pending; bad = false; count = r .count; check = r .sum }
+
+abbrev pub place : (level : ℕ) → State ℕ → Reader
+place level s = record { level = level; synced = s .synced; pending = s .pending; count = s .count; sum = s .check }
 
 -- the three ways of being ill formed (5): "count over 2,562, sum not 0 at count 0, or pending or count not 0 before a flag"
 abbrev pub overCap : Reader → Bool

@@ -1,18 +1,18 @@
-// QAFT: the chunk reader. The state and its names: specs/State; the verdict on a segment: specs/Verdict; one octet:
-// specs/Step; a call: specs/Read; reports and their numbers: the crate qaft_report. Runs of octets that stand for themselves: run.rt.
+// QAFT: the chunk reader. The state and its names: specs/State; one octet: specs/Step; a call: specs/Read; the rules of reading,
+// reports and their numbers: the crate qaft_report. The loop over a chunk is the deframer's, which all framings share; what the
+// reader hands over and how it judges what comes back: specs/Scanned.
 ghost use mathlib.Core.Path.{_≡_};
 ghost use mathlib.Core.Bool.{not};
-ghost use Prim.Native.Nat.{_≤_};
+ghost use Prim.Native.Nat.{_<_, _≤_};
 ghost use lib.ListN.{length};
 ghost use Rattle.qaft.specs.Limits.{maxSegment};
-ghost use Rattle.qaft_read.specs.State.{fresh, malformed};
-ghost use Rattle.qaft_read.specs.Verdict.{verdict};
-ghost use Rattle.qaft_read.specs.Step.{stored, inSegment, step};
+ghost use Rattle.qaft_read.specs.State.{fresh, opened, malformed};
+ghost use Rattle.qaft_read.specs.Scanned.{rule, stateOf, readerAt, verdictOf};
 ghost use Rattle.qaft_read.specs.Read.{scanCall, read};
+use deframer::Rule;
+use deframer::State;
 use qaft_report::Outcome;
 use qaft_report::Report;
-
-mod run;
 
 #[repr(C)]
 pub struct Reader {
@@ -23,17 +23,10 @@ pub struct Reader {
     pub sum: u8,
 }
 
-// The verdict on a segment at its closing flag. An empty one is not reported.
+// The verdict on a segment: none while it is open, a report where a flag closed it.
 pub enum Verdict {
-    Empty,
+    Open,
     Closed(Report),
-}
-
-// What one octet of the line does: it changes the state alone; it stores an octet at an index of the buffer; it reports.
-pub enum Action {
-    Advance(Reader),
-    Store(Reader, usize, u8),
-    Emit(Report, Reader),
 }
 
 // The answer to a call: what came of it, the octets taken, and the state for the next call.
@@ -114,131 +107,95 @@ impl Reader {
         ensures { λ r. ⌜ r ≡ scanCall self (now (chunk .entry)) (now (buffer .entry)) .answer ⌝ }
         ensures { λ _. ⌜ now (buffer .exit) ≡ scanCall self (now (chunk .entry)) (now (buffer .entry)) .buffer ⌝ }
     {
-        let mut r = self;
-        let mut i = 0;
-        while i < chunk.len() {
-            let n = run::run_length(r, &chunk[i..]);
-            let end = i + n;
-            r = run::with_run(r, &chunk[i..end], buffer);
-            i = end;
-            if i < chunk.len() {
-                let x = chunk[i];
-                i += 1;
-                let action = r.step(x);
-                match action {
-                    Action::Advance(next) => r = next,
-                    Action::Store(next, at, octet) => {
-                        buffer[at] = octet;
-                        r = next;
-                    }
-                    Action::Emit(report, next) => {
-                        return Answer {
-                            outcome: Outcome::Reported(report),
-                            taken: i,
-                            reader: next,
-                        };
-                    }
-                }
-            }
-        }
+        let scanned = deframer::scan(rule(), self.state(), chunk, buffer);
+        let s = scanned.state;
+        let Verdict::Closed(report) = judge(scanned.closed, s) else {
+            return Answer {
+                outcome: Outcome::UsedUp,
+                taken: scanned.taken,
+                reader: self.at(s),
+            };
+        };
         Answer {
-            outcome: Outcome::UsedUp,
-            taken: i,
-            reader: r,
+            outcome: Outcome::Reported(report),
+            taken: scanned.taken,
+            reader: self.opened(),
         }
     }
 
-    // One octet of the line. Octets before the first flag are dropped.
-    fn step(self, x: u8) -> Action
-        ensures { λ r. ⌜ r ≡ step self x ⌝ }
+    // The state as the deframer has it, which knows no level.
+    fn state(self) -> State
+        ensures { λ r. ⌜ r ≡ stateOf self ⌝ }
     {
-        if x == qaft::FLAG {
-            let opened = Reader {
-                level: self.level,
-                synced: true,
-                pending: false,
-                count: 0,
-                sum: 0,
-            };
-            let Verdict::Closed(report) = self.verdict() else {
-                return Action::Advance(opened);
-            };
-            return Action::Emit(report, opened);
-        }
-        if self.synced {
-            return self.in_segment(x);
-        }
-        Action::Advance(self)
-    }
-
-    // An octet of a segment: the partner of a 7D, a 7D, or itself.
-    fn in_segment(self, x: u8) -> Action
-        ensures { λ r. ⌜ r ≡ inSegment self x ⌝ }
-    {
-        if self.pending {
-            return self.stored(x ^ qaft::MASK);
-        }
-        if x == qaft::ESCAPE {
-            return Action::Advance(Reader {
-                level: self.level,
-                synced: self.synced,
-                pending: true,
-                count: self.count,
-                sum: self.sum,
-            });
-        }
-        self.stored(x)
-    }
-
-    // An octet with its escape undone joins the segment. It is stored while the segment may still be a frame.
-    fn stored(self, x: u8) -> Action
-        ensures { λ r. ⌜ r ≡ stored self x ⌝ }
-    {
-        let n = self.count;
-        let sum = std::num::wrapping_add_u8(self.sum, x);
-        if n < qaft::MAX_SEGMENT {
-            Action::Store(
-                Reader {
-                    level: self.level,
-                    synced: self.synced,
-                    pending: false,
-                    count: n + 1,
-                    sum,
-                },
-                n,
-                x,
-            )
-        } else {
-            Action::Advance(Reader {
-                level: self.level,
-                synced: self.synced,
-                pending: false,
-                count: qaft::MAX_SEGMENT + 1,
-                sum,
-            })
+        State {
+            synced: self.synced,
+            pending: self.pending,
+            bad: false,
+            count: self.count,
+            check: self.sum as u16,
         }
     }
 
-    // The verdict on the segment that a flag closes here; first that applies.
-    fn verdict(self) -> Verdict
-        ensures { λ r. ⌜ r ≡ verdict self ⌝ }
+    // A state of the deframer at the reader's level. Its check is a sum modulo 256.
+    fn at(self, s: State) -> Reader
+        requires { ⌜ s .check < 256 ⌝ }
+        ensures { λ r. ⌜ r ≡ readerAt (self .level) s ⌝ }
     {
-        if self.pending {
+        Reader {
+            level: self.level,
+            synced: s.synced,
+            pending: s.pending,
+            count: s.count,
+            sum: s.check as u8,
+        }
+    }
+
+    // The state behind a flag, which opens a segment.
+    fn opened(self) -> Reader
+        ensures { λ r. ⌜ r ≡ opened self ⌝ }
+    {
+        Reader {
+            level: self.level,
+            synced: true,
+            pending: false,
+            count: 0,
+            sum: 0,
+        }
+    }
+}
+
+// How the deframer is to read: flag and escape alone have a meaning, at both levels.
+fn rule() -> Rule
+    ensures { λ r. ⌜ r ≡ rule ⌝ }
+{
+    Rule {
+        escapes: qaft::escapes(0),
+        mask: qaft::MASK,
+        strict: false,
+        cap: qaft::MAX_SEGMENT as u16,
+        check: deframer::SUM,
+    }
+}
+
+// The verdict on the segment in which a call ended; first that applies.
+fn judge(closed: bool, s: State) -> Verdict
+    ensures { λ r. ⌜ r ≡ verdictOf closed s ⌝ }
+{
+    if closed {
+        if s.pending {
             return Verdict::Closed(Report::Aborted);
         }
-        let n = self.count;
-        if n == 0 {
-            return Verdict::Empty;
-        }
+        let n = s.count;
         if qaft::MAX_SEGMENT < n {
             return Verdict::Closed(Report::Long);
         }
         if n < qaft::MIN_SEGMENT {
             return Verdict::Closed(Report::Short);
         }
-        if self.sum != 0 {
+        if s.check != 0 {
             return Verdict::Closed(Report::BadCheck);
         }
-        Verdict::Closed(Report::Frame(n - 1))
+        return Verdict::Closed(Report::Frame(n - 1));
     }
+    Verdict::Open
 }

@@ -1,1 +1,3 @@
 pub mod Answer
+pub mod Rules
+pub mod Examples

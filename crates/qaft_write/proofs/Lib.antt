@@ -1,4 +1,2 @@
-pub mod Frame
 pub mod Refusals
 pub mod Sending
-pub mod Blocks

@@ -1,20 +1,20 @@
 -- The frame writer's cases: each refusal, and the frame written. Assumes nothing.
 use Prim.Native.Nat.{ℕ, _≤_, _<_}
-use mathlib.Core.Bool.{Bool, true, false}
-use mathlib.Core.List.{List}
-use mathlib.Core.Path.{_≡_, sym, ap, _∙_}
-use native.Mathlib.Omega.{arith}
-use borrow.Author.Tests.{lt-ltb, le-ltb, eq-eqb, ne-eqb, leb-true, leb-false}
-use lib.Dec.{leb}
+use mathlib.Core.Bool.{Bool}
+use mathlib.Core.List.{List, [], _∷_}
+use mathlib.Core.Path.{_≡_, sym, ap, ap₂, _∙_}
+use borrow.Author.Tests.{lt-ltb, le-ltb, eq-eqb, ne-eqb}
 use lib.ListN.{length}
-use lib.Seq.{sets}
-use Rattle.common.proofs.Buffer.{sets-front}
+use Rattle.escapes.specs.declared.Escapes.{Escapes}
+use Rattle.framer.proofs.Written.{written-fits, written-none, written-zero, written-some, frame-some}
+use Rattle.framer.specs.Write.{framed, writtenLength, writtenInto}
+use Rattle.qaft.proofs.Escape.{frame-escapesOf}
 use Rattle.qaft.specs.Answers.{done, noData, dataTooLong, outTooSmall, badLevel}
 use Rattle.qaft.specs.Check.{checkOctet}
-use Rattle.qaft.specs.Frame.{frame}
+use Rattle.qaft.specs.Escape.{writing, escapesOf}
+use Rattle.qaft.specs.Frame.{sealed, frame}
 use Rattle.qaft.specs.Limits.{maxLevel, maxData}
-use Rattle.qaft_write.proofs.Frame.{frame-with}
-use Rattle.qaft_write.specs.Write.{Outcome, refusals, refusal, wrote, writeFrame, frameWith}
+use Rattle.qaft_write.specs.Write.{Outcome, refusals, refusal, wrote, writeFrame}
 use Rattle.qaft_write.specs.declared.Written.{Written}
 
 module _ (level : ℕ) (atFlag : Bool) (d out : List ℕ) where
@@ -41,22 +41,34 @@ module _ (level : ℕ) (atFlag : Bool) (d out : List ℕ) where
         unfolding writeFrame refusals
         write-done r = simp (le-ltb _ _ h, ne-eqb _ _ some, le-ltb _ _ k, le-ltb _ _ r)
 
-        -- as the code goes: by the check octet c, which it calculated, and whether the frame with it fits
-        module _ (c : ℕ) (ce : c ≡ checkOctet d) (fits : Bool) (fe : fits ≡ leb (length (frameWith level atFlag d c)) (length out)) where
-          same : frameWith level atFlag d c ≡ frame level atFlag d
-          same = ap (frameWith level atFlag d) ce ∙ frame-with level atFlag d
+        -- as the code goes: by the escapes e and the check octet c, which it calculated; n and m: the frame writer's answer, and the buffer after it
+        module _ (e : Escapes) (ee : e ≡ escapesOf level) (c : ℕ) (ce : c ≡ checkOctet d) (n : ℕ) (m : List ℕ)
+            (ne : n ≡ writtenLength (framed e atFlag [] d (c ∷ [])) out) (me : m ≡ writtenInto (framed e atFlag [] d (c ∷ [])) out) where
+          same : framed e atFlag [] d (c ∷ []) ≡ frame level atFlag d
+          unfolding frame
+          same = ap₂ (λ (e : Escapes) (c : ℕ). framed e atFlag [] d (c ∷ [])) ee ce ∙ frame-escapesOf level atFlag (sealed d)
 
-          pub write-unfit : fits ≡ false → writeFrame level atFlag d out ≡ refusal out outTooSmall
-          write-unfit e = write-outTooSmall (omega (arith, ap length same, leb-false (length (frameWith level atFlag d c)) (length out) (sym fe ∙ e)))
+          nonempty : 0 < length (frame level atFlag d)
+          unfolding frame
+          nonempty = frame-some (writing level) atFlag (sealed d)
 
-          module _ (e : fits ≡ true) (n : ℕ) (m : List ℕ) (ne : n ≡ length (frameWith level atFlag d c)) (me : m ≡ sets out 0 (frameWith level atFlag d c)) where
-            room : length (frame level atFlag d) ≤ length out
-            room = omega (arith, ap length same, leb-true (length (frameWith level atFlag d c)) (length out) (sym fe ∙ e))
+          answer : n ≡ writtenLength (frame level atFlag d) out
+          answer = ne ∙ ap (λ (ys : List ℕ). writtenLength ys out) same
 
-            pub write-fit : (_≡_ {A = Written} (record { number = done; length = n }) (writeFrame level atFlag d out .answer)) × (m ≡ writeFrame level atFlag d out .buffer)
-            unfolding wrote
-            write-fit =
-                let w = write-done room in (
-                  ap (λ (n : ℕ). record { number = done; length = n }) (ne ∙ ap length same) ∙ sym (ap (λ (o : Outcome). o .answer) w),
-                  me ∙ ap (sets out 0) same ∙ sets-front (frame level atFlag d) out room ∙ sym (ap (λ (o : Outcome). o .buffer) w),
-                )
+          buffer : m ≡ writtenInto (frame level atFlag d) out
+          buffer = me ∙ ap (λ (ys : List ℕ). writtenInto ys out) same
+
+          pub write-unfit : n ≡ 0 → (_≡_ {A = Written} (record { number = outTooSmall; length = 0 }) (writeFrame level atFlag d out .answer)) × (m ≡ writeFrame level atFlag d out .buffer)
+          unfolding refusal
+          write-unfit z =
+              let small = written-zero (frame level atFlag d) out nonempty n answer z in
+              let w = write-outTooSmall small in
+              (sym (ap (λ (o : Outcome). o .answer) w), buffer ∙ written-none (frame level atFlag d) out small .1 ∙ sym (ap (λ (o : Outcome). o .buffer) w))
+
+          pub write-fit : (n ≡ 0 → ⊥) → (_≡_ {A = Written} (record { number = done; length = n }) (writeFrame level atFlag d out .answer)) × (m ≡ writeFrame level atFlag d out .buffer)
+          unfolding wrote
+          write-fit z =
+              let room = written-some (frame level atFlag d) out nonempty n answer z in
+              let f = written-fits (frame level atFlag d) out room in
+              let w = write-done room in
+              (ap (λ (n : ℕ). record { number = done; length = n }) (answer ∙ f .0) ∙ sym (ap (λ (o : Outcome). o .answer) w), buffer ∙ f .1 ∙ sym (ap (λ (o : Outcome). o .buffer) w))

@@ -8,6 +8,7 @@ use borrow.Author.Tests.{ltb-true, ltb-false, eqb-true, eqb-false}
 use lib.Dec.{ltb, eqb}
 use lib.ListN.{length, take}
 use Rattle.common.proofs.Buffer.{take-withFront}
+use Rattle.framing.specs.Writing as framing
 use Rattle.qaft.proofs.Frame.{frame-fits, frames-line}
 use Rattle.qaft.specs.Answers.{done}
 use Rattle.qaft.specs.Frame.{frame, frames, line, Writable}
@@ -66,7 +67,7 @@ module _ (level : ℕ) where
       (w .some, w .most, done-writable true cs (ok .1))
 
   sent-frames : (atFlag : Bool) (cs : List Lent) → AllDone level atFlag cs → sent level atFlag cs ≡ frames level atFlag (octetsOf cs)
-  unfolding sent frames wrote
+  unfolding sent frames frame framing.frames wrote
   sent-frames atFlag [] ok = refl
   sent-frames atFlag (c ∷ cs) ok =
       let f = frame level atFlag (c .octets) in

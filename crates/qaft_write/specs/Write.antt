@@ -1,14 +1,13 @@
 -- QAFT: what the frame writer answers, and what the out buffer then holds. Cited by its contract. Assumes nothing.
 use Prim.Native.Nat.{ℕ}
 use mathlib.Core.Bool.{Bool}
-use mathlib.Core.List.{List, [], _∷_, _++_}
+use mathlib.Core.List.{List, [], _∷_}
 use lib.Dec.{ltb, eqb}
 use lib.ListN.{length}
 use Rattle.common.specs.Buffer.{withFront}
 use Rattle.common.specs.Refusals.{Refusal, guarded}
 use Rattle.qaft.specs.Answers.{done, noData, dataTooLong, outTooSmall, badLevel}
-use Rattle.qaft.specs.Escape.{flag, escape}
-use Rattle.qaft.specs.Frame.{opening, frame}
+use Rattle.qaft.specs.Frame.{frame}
 use Rattle.qaft.specs.Limits.{maxLevel, maxData}
 use Rattle.qaft_write.specs.declared.Written.{Written}
 
@@ -37,7 +36,3 @@ refusals level atFlag d room =
 -- the frame writer
 unfoldable pub writeFrame : (level : ℕ) (atFlag : Bool) (d out : List ℕ) → Outcome
 writeFrame level atFlag d out = guarded (refusals level atFlag d (length out)) (refusal out) (wrote out (frame level atFlag d))
-
--- a frame with a check octet c that was calculated before; it is `frame` where c is the check octet of d
-unfoldable pub frameWith : (level : ℕ) (atFlag : Bool) (d : List ℕ) (c : ℕ) → List ℕ
-frameWith level atFlag d c = opening atFlag ++ (escape level (d ++ (c ∷ [])) ++ (flag ∷ []))

@@ -1,23 +1,24 @@
 -- `qaft_write::write_frame` meets its contract: one law a refusal, and one for the frame written. Assumes nothing.
 use mathlib.Core.Path.{sym, ap, _∙_}
+use native.Mathlib.Omega.{arith}
 use borrow.Author.Needs.{needs}
-use borrow.Author.Tests.{leb-true}
 use Rattle.qaft_write.proofs.Refusals.{write-badLevel, write-noData, write-dataTooLong, write-unfit, write-fit}
 use Rattle.qaft_write.proofs.write_frame.Statement.{statement}
 use Rattle.qaft_write.proofs.write_frame.Tie as tie
 use Rattle.qaft_write.specs.Write.{Outcome, refusal}
 
 refused-requires : tie.Need-refused-requires
-refused-requires c κs = search needs
+refused-requires c κs = tt
 
 returns : tie.Need-returns
 unfolding refusal
 returns c =
-    let e = write-badLevel _ _ _ _ (c .before .if1 .taken) in
+    let s = c .before .before .before .before .args in
+    let e = write-badLevel (s .level) (s .at-flag) (s .«data» .now) (s .out .now) (omega (arith, c .before .if1 .taken)) in
     (c .refused .ensures ∙ sym (ap (λ (o : Outcome). o .answer) e), sym (ap (λ (o : Outcome). o .buffer) e))
 
 refused-requires-2 : tie.Need-refused-requires-2
-refused-requires-2 c κs = search needs
+refused-requires-2 c κs = tt
 
 returns-2 : tie.Need-returns-2
 unfolding refusal
@@ -26,7 +27,7 @@ returns-2 c =
     (c .refused2 .ensures ∙ sym (ap (λ (o : Outcome). o .answer) e), sym (ap (λ (o : Outcome). o .buffer) e))
 
 refused-requires-3 : tie.Need-refused-requires-3
-refused-requires-3 c κs = search needs
+refused-requires-3 c κs = tt
 
 returns-3 : tie.Need-returns-3
 unfolding refusal
@@ -34,40 +35,49 @@ returns-3 c =
     let e = write-dataTooLong _ _ _ _ (c .before .before .before .if1 .left) (c .before .before .if2 .left) (c .before .if3 .taken) in
     (c .refused3 .ensures ∙ sym (ap (λ (o : Outcome). o .answer) e), sym (ap (λ (o : Outcome). o .buffer) e))
 
+escapes-requires : tie.Need-escapes-requires
+escapes-requires c κs = tt
+
 check-octet-requires : tie.Need-check-octet-requires
-check-octet-requires c κs = search needs
+check-octet-requires c κs = tt
 
-fits-requires : tie.Need-fits-requires
-fits-requires c κs = search needs
+slice-aggregate-write : tie.Need-slice-aggregate-write
+slice-aggregate-write c = search needs
 
-put-frame-requires : tie.Need-put-frame-requires
-put-frame-requires c κs = leb-true _ _ (sym (c .before .before .fits2 .ensures) ∙ c .before .if4 .taken)
+slice-aggregate-write-2 : tie.Need-slice-aggregate-write-2
+slice-aggregate-write-2 c = search needs
+
+write-requires : tie.Need-write-requires
+write-requires c κs = tt
+
+refused-requires-4 : tie.Need-refused-requires-4
+refused-requires-4 c κs = tt
 
 same-length : tie.Need-same-length
-same-length c = c .before .before .put-frame .kept .1 .1 .1 .1 .0
+same-length c = c .before .before .before .before .write .kept .1 .1 .1 .1 .1 .0
 
 returns-4 : tie.Need-returns-4
 returns-4 c =
-    let put = c .before .before in
-    let taken = put .before .before in
-    let fitted = taken .before in
-    let checked = fitted .before in
-    let passed = checked .before in
-    write-fit _ _ _ _ (passed .before .before .if1 .left) (passed .before .if2 .left) (passed .if3 .left) _ (checked .check-octet .ensures) _ (fitted .fits2 .ensures)
-    (taken .if4 .taken) _ _ (put .put-frame .ensures .0) (put .put-frame .ensures .1)
+    let written = c .before .before .before .before in
+    let checked = written .before .before .before .before in
+    let passed = checked .before .before in
+    let w = written .write .ensures in
+    let f =
+    write-unfit _ _ _ _ (passed .before .before .if1 .left) (passed .before .if2 .left) (passed .if3 .left) _ (checked .before .escapes .ensures) _ (checked .check-octet .ensures)
+    _ _ (w .0) (w .1) (c .before .if4 .taken) in
+    (c .refused4 .ensures ∙ f .0, f .1)
 
-refused-requires-4 : tie.Need-refused-requires-4
-refused-requires-4 c κs = search needs
+same-length-2 : tie.Need-same-length-2
+same-length-2 c = c .before .before .before .write .kept .1 .1 .1 .1 .1 .0
 
 returns-5 : tie.Need-returns-5
-unfolding refusal
 returns-5 c =
-    let left = c .before in
-    let fitted = left .before in
-    let checked = fitted .before in
-    let passed = checked .before in
-    let e = write-unfit _ _ _ _ (passed .before .before .if1 .left) (passed .before .if2 .left) (passed .if3 .left) _ (checked .check-octet .ensures) _ (fitted .fits2 .ensures) (left .if4 .left) in
-    (c .refused4 .ensures ∙ sym (ap (λ (o : Outcome). o .answer) e), sym (ap (λ (o : Outcome). o .buffer) e))
+    let written = c .before .before .before in
+    let checked = written .before .before .before .before in
+    let passed = checked .before .before in
+    let w = written .write .ensures in
+    write-fit _ _ _ _ (passed .before .before .if1 .left) (passed .before .if2 .left) (passed .if3 .left) _ (checked .before .escapes .ensures) _ (checked .check-octet .ensures)
+    _ _ (w .0) (w .1) (c .if4 .left)
 
 pub write-frame-spec : {M : Type 1} → statement M
 write-frame-spec =
@@ -79,10 +89,13 @@ write-frame-spec =
     returns-2
     refused-requires-3
     returns-3
+    escapes-requires
     check-octet-requires
-    fits-requires
-    put-frame-requires
+    slice-aggregate-write
+    slice-aggregate-write-2
+    write-requires
+    refused-requires-4
     same-length
     returns-4
-    refused-requires-4
+    same-length-2
     returns-5)

@@ -1,0 +1,4 @@
+pub mod Checks
+pub mod Ways
+pub mod Runs
+pub mod Steps

@@ -1,0 +1,89 @@
+// Octets that are escaped on a flagged line, and what stands for each of them behind the escape: what the writers and readers
+// of every framing go by. Definitions: specs/Escapes.
+ghost use mathlib.Core.Path.{_≡_};
+ghost use Prim.Native.Nat.{_+_, _≤_};
+ghost use lib.Dec.{eqb};
+ghost use lib.ListN.{length, drop};
+ghost use Rattle.common.specs.Plain.{plain, plainLength};
+ghost use Rattle.escapes.specs.Escapes.{isEscaped};
+
+// So many octets are looked at together, without a branch: one vector of the machine.
+const BLOCK: usize = 16;
+
+// The flag, the escape and two more octets that are escaped, and what stands behind the escape for each. Where no others are
+// escaped the two are the flag and the escape once more.
+pub struct Escapes {
+    pub flag: u8,
+    pub escape: u8,
+    pub third: u8,
+    pub fourth: u8,
+    pub behind_flag: u8,
+    pub behind_escape: u8,
+    pub behind_third: u8,
+    pub behind_fourth: u8,
+}
+
+impl Escapes {
+    // Whether an octet is escaped, so that it may not stand in a run of octets that go on the line as they are.
+    pub fn escapes(self, x: u8) -> bool
+        ensures { λ r. ⌜ r ≡ isEscaped self x ⌝ }
+    {
+        (x == self.flag) | ((x == self.escape) | ((x == self.third) | (x == self.fourth)))
+    }
+
+    // Whether none of the octets is escaped. Each of the four is looked for by itself: of that the compiler makes comparisons of
+    // whole vectors, and of one test for all four it does not.
+    pub fn all_plain(self, octets: &[u8]) -> bool
+        ensures { λ r. ⌜ r ≡ plain (isEscaped self) (now (octets .entry)) ⌝ }
+    {
+        let no_flag = lacks(octets, self.flag);
+        let no_escape = lacks(octets, self.escape);
+        let no_third = lacks(octets, self.third);
+        let no_fourth = lacks(octets, self.fourth);
+        no_flag & (no_escape & (no_third & no_fourth))
+    }
+
+    // How many octets of the front stand before the first that is escaped.
+    pub fn plain_length(self, octets: &[u8]) -> usize
+        ensures { λ r. ⌜ r ≡ plainLength (isEscaped self) (now (octets .entry)) ⌝ }
+    {
+        let mut n = self.plain_blocks(octets);
+        while n < octets.len() {
+            if self.escapes(octets[n]) {
+                return n;
+            }
+            n += 1;
+        }
+        n
+    }
+
+    // How many octets of the front are found plain in whole blocks.
+    fn plain_blocks(self, octets: &[u8]) -> usize
+        ensures { λ r. ⌜ r ≤ length (now (octets .entry)) ⌝ }
+        ensures { λ r. ⌜ plainLength (isEscaped self) (now (octets .entry)) ≡ r + plainLength (isEscaped self) (drop r (now (octets .entry))) ⌝ }
+    {
+        let mut n = 0;
+        while BLOCK <= octets.len() - n {
+            let next = n + BLOCK;
+            if self.all_plain(&octets[n..next]) {
+                n = next;
+            } else {
+                return n;
+            }
+        }
+        n
+    }
+}
+
+// Whether an octet is not among others. All are looked at, so that there is no branch among them.
+fn lacks(octets: &[u8], y: u8) -> bool
+    ensures { λ r. ⌜ r ≡ plain (λ x. eqb x y) (now (octets .entry)) ⌝ }
+{
+    let mut so_far = true;
+    let mut i = 0;
+    while i < octets.len() {
+        so_far = so_far & (octets[i] != y);
+        i += 1;
+    }
+    so_far
+}

@@ -1,0 +1,24 @@
+-- `framer::put::behind` meets its contract: each return by the tests on its way. Assumes nothing.
+use borrow.Author.Tests.{eq-eqb, ne-eqb}
+use Rattle.framer.proofs.put.behind.Statement.{statement}
+use Rattle.framer.proofs.put.behind.Tie as tie
+use Rattle.escapes.specs.Escapes.{behind}
+
+returns : tie.Need-returns
+unfolding behind
+returns c = simp (eq-eqb _ _ (c .if1 .taken))
+
+returns-2 : tie.Need-returns-2
+unfolding behind
+returns-2 c = simp (ne-eqb _ _ (c .before .before .if1 .left), eq-eqb _ _ (c .if2 .taken))
+
+returns-3 : tie.Need-returns-3
+unfolding behind
+returns-3 c = simp (ne-eqb _ _ (c .before .before .before .before .if1 .left), ne-eqb _ _ (c .before .before .if2 .left), eq-eqb _ _ (c .if3 .taken))
+
+returns-4 : tie.Need-returns-4
+unfolding behind
+returns-4 c = simp (ne-eqb _ _ (c .before .before .before .before .if1 .left), ne-eqb _ _ (c .before .before .if2 .left), ne-eqb _ _ (c .if3 .left))
+
+pub behind-spec : {M : Type 1} → statement M
+behind-spec = tie.close (tie.spec returns returns-2 returns-3 returns-4)

@@ -1,0 +1,126 @@
+// Octets, escaped, put down from an index of the buffer on, which has room for them; the index after them.
+ghost use mathlib.Core.Path.{_≡_};
+ghost use Prim.Native.Nat.{_+_, _%_, _≤_};
+ghost use lib.ListN.{length};
+ghost use lib.Seq.{sets};
+ghost use Rattle.framing.specs.Writing.{escapedOne, escaped};
+ghost use Rattle.escapes.specs.Escapes.{behind, writingOf};
+use escapes::Escapes;
+
+// So many octets are looked at together.
+const BLOCK: usize = 8;
+
+// And so many of what is left behind the last block.
+const HALF: usize = 4;
+
+// Whole blocks first, then what is left.
+pub(crate) fn put_octets(e: Escapes, octets: &[u8], out: &mut [u8], at: usize) -> usize
+    requires { ⌜ at + length (escaped (writingOf e) (now octets)) ≤ length (now out) ⌝ }
+    ensures { λ r. ⌜ r ≡ at + length (escaped (writingOf e) (now (octets .entry))) ⌝ }
+    ensures { λ _. ⌜ now (out .exit) ≡ sets (now (out .entry)) at (escaped (writingOf e) (now (octets .entry))) ⌝ }
+{
+    let n = octets.len();
+    let whole = n - n % BLOCK;
+    let mid = put_blocks(e, &octets[..whole], out, at);
+    put_rest(e, &octets[whole..], out, mid)
+}
+
+// Whole blocks.
+fn put_blocks(e: Escapes, octets: &[u8], out: &mut [u8], at: usize) -> usize
+    requires { ⌜ length (now octets) % 8 ≡ 0 ⌝ }
+    requires { ⌜ at + length (escaped (writingOf e) (now octets)) ≤ length (now out) ⌝ }
+    ensures { λ r. ⌜ r ≡ at + length (escaped (writingOf e) (now (octets .entry))) ⌝ }
+    ensures { λ _. ⌜ now (out .exit) ≡ sets (now (out .entry)) at (escaped (writingOf e) (now (octets .entry))) ⌝ }
+{
+    let mut to = at;
+    let mut i = 0;
+    while i < octets.len() {
+        let next = i + BLOCK;
+        to = put_block(e, &octets[i..next], out, to);
+        i = next;
+    }
+    to
+}
+
+// One block: most have no octet that is escaped, and go out as they are.
+fn put_block(e: Escapes, octets: &[u8], out: &mut [u8], at: usize) -> usize
+    requires { ⌜ length (now octets) ≡ 8 ⌝ }
+    requires { ⌜ at + length (escaped (writingOf e) (now octets)) ≤ length (now out) ⌝ }
+    ensures { λ r. ⌜ r ≡ at + length (escaped (writingOf e) (now (octets .entry))) ⌝ }
+    ensures { λ _. ⌜ now (out .exit) ≡ sets (now (out .entry)) at (escaped (writingOf e) (now (octets .entry))) ⌝ }
+{
+    if e.all_plain(octets) {
+        let block = eight(octets);
+        return octets::put(&block, out, at);
+    }
+    put_each(e, octets, out, at)
+}
+
+// The octets of a block. All are read before the first is put down, so that the compiler may move them at once.
+fn eight(o: &[u8]) -> [u8; 8]
+    requires { ⌜ length (now o) ≡ 8 ⌝ }
+    ensures { λ r. ⌜ r ≡ now (o .entry) ⌝ }
+{
+    [o[0], o[1], o[2], o[3], o[4], o[5], o[6], o[7]]
+}
+
+// What is left: half a block as it is, where that is there and none of it is escaped; the others one by one.
+fn put_rest(e: Escapes, octets: &[u8], out: &mut [u8], at: usize) -> usize
+    requires { ⌜ at + length (escaped (writingOf e) (now octets)) ≤ length (now out) ⌝ }
+    ensures { λ r. ⌜ r ≡ at + length (escaped (writingOf e) (now (octets .entry))) ⌝ }
+    ensures { λ _. ⌜ now (out .exit) ≡ sets (now (out .entry)) at (escaped (writingOf e) (now (octets .entry))) ⌝ }
+{
+    if octets.len() < HALF {
+        return put_each(e, octets, out, at);
+    }
+    if e.all_plain(&octets[..HALF]) {
+        let mid = octets::put(&octets[..HALF], out, at);
+        return put_each(e, &octets[HALF..], out, mid);
+    }
+    put_each(e, octets, out, at)
+}
+
+// Octets one by one.
+pub(crate) fn put_each(e: Escapes, octets: &[u8], out: &mut [u8], at: usize) -> usize
+    requires { ⌜ at + length (escaped (writingOf e) (now octets)) ≤ length (now out) ⌝ }
+    ensures { λ r. ⌜ r ≡ at + length (escaped (writingOf e) (now (octets .entry))) ⌝ }
+    ensures { λ _. ⌜ now (out .exit) ≡ sets (now (out .entry)) at (escaped (writingOf e) (now (octets .entry))) ⌝ }
+{
+    let mut to = at;
+    let mut i = 0;
+    while i < octets.len() {
+        to = put_octet(e, octets[i], out, to);
+        i += 1;
+    }
+    to
+}
+
+// One octet.
+fn put_octet(e: Escapes, x: u8, out: &mut [u8], at: usize) -> usize
+    requires { ⌜ at + length (escapedOne (writingOf e) x) ≤ length (now out) ⌝ }
+    ensures { λ r. ⌜ r ≡ at + length (escapedOne (writingOf e) x) ⌝ }
+    ensures { λ _. ⌜ now (out .exit) ≡ sets (now (out .entry)) at (escapedOne (writingOf e) x) ⌝ }
+{
+    if e.escapes(x) {
+        out[at] = e.escape;
+        out[at + 1] = behind(e, x);
+        return at + 2;
+    }
+    out[at] = x;
+    at + 1
+}
+
+// What stands behind the escape for an octet that is escaped.
+fn behind(e: Escapes, x: u8) -> u8
+    ensures { λ r. ⌜ r ≡ behind e x ⌝ }
+{
+    if x == e.flag {
+        e.behind_flag
+    } else if x == e.escape {
+        e.behind_escape
+    } else if x == e.third {
+        e.behind_third
+    } else {
+        e.behind_fourth
+    }
+}

@@ -1,0 +1,113 @@
+-- The reader as framing sees it: what no call refuses stays so, its calls are scans, and every other state and buffer is refused. Assumes nothing.
+use Prim.Native.Nat.{ℕ, _≤_}
+use mathlib.Core.Bool.{Bool, true, false, not, _&&_, _||_}
+use mathlib.Core.List.{List}
+use mathlib.Core.Logic.{_⊎_, inl, inr}
+use mathlib.Core.Option.{Option, none, some}
+use mathlib.Core.Path.{_≡_, refl, sym, ap, _∙_, subst}
+use borrow.Author.Tests.{ltb-true, ltb-false}
+use lib.Dec.{ltb, eqb}
+use lib.ListN.{length}
+use Rattle.framing.proofs.Formed.{step-keeps}
+use Rattle.framing.proofs.Formed as framing
+use Rattle.framing.proofs.Meaning as meaning
+use Rattle.framing.specs.Reports.{reportsOf, shownReports}
+use Rattle.framing.specs.Rules.{State}
+use Rattle.framing.specs.Step.{step}
+use Rattle.framing.specs.Step as steps
+use Rattle.line.proofs.Chunks.{Keeps}
+use Rattle.line.proofs.Simulation.{trace-simulates}
+use Rattle.line.specs.Scan.{Action, advance, store, emit, Scan, scan}
+use Rattle.line.specs.Simulation.{placeAction}
+use Rattle.line.specs.Trace.{Trace, trace}
+use Rattle.qaft.specs.Answers.{badLevel, bufferTooSmall, badState}
+use Rattle.qaft.specs.Limits.{maxLevel, maxSegment, countCap}
+use Rattle.qaft_laws.proofs.Rules.{lawful}
+use Rattle.qaft_read.proofs.Refusals.{Fit, read-badLevel, read-bufferTooSmall, read-badState, read-scan}
+use Rattle.qaft_read.proofs.Scanning.{commutes}
+use Rattle.qaft_read.specs.Read.{Call, outcomeOf, callOf, scanCall, refusal, reportOf, readScan}
+use Rattle.qaft_read.specs.State.{fresh, view, place, malformed}
+use Rattle.qaft_read.specs.Step.{action}
+use Rattle.qaft_read.specs.declared.Reader.{Reader}
+use Rattle.qaft_report.specs.Rules.{rules}
+use Rattle.qaft_report.specs.declared.Report.{Report}
+
+-- ---- what no call refuses, and framing's word for it
+pub fit-view : (r : Reader) (m : List ℕ) → Fit r m → framing.Fit (rules (r .level)) (view r) m
+unfolding malformed steps.malformed
+fit-view r m h = record { room = h .room; formed = h .formed }
+
+fit-place : (level : ℕ) → level ≤ maxLevel → (s : State ℕ) (m : List ℕ) → framing.Fit (rules level) s m → Fit (place level s) m
+unfolding malformed steps.malformed
+fit-place level l s m h = record { level = l; room = h .room; formed = go (eqb (s .count) 0) (s .bad) (ltb countCap (s .count)) (not (eqb (s .check) 0)) _ (h .formed) }
+  where
+    -- framing asks besides that no bad pair is marked in an empty segment
+    go : (z b o c f : Bool) → (o || ((z && (b || c)) || f)) ≡ false → (o || ((z && c) || f)) ≡ false
+    go z b true c f e = e
+    go false b false c f e = e
+    go true true false c f e = cc
+    go true false false c f e = e
+
+keeps-placed : (level : ℕ) → level ≤ maxLevel → (a : Action (State ℕ) Report) (m : List ℕ) → Keeps (step (rules level)) (framing.Fit (rules level)) a m → Keeps action Fit (placeAction (place level) a) m
+keeps-placed level l (advance s) m k = fit-place level l s m k
+keeps-placed level l (store s i x) m k = fit-place level l s _ k
+keeps-placed level l (emit p s) m k = fit-place level l s m k
+
+-- one octet keeps it
+pub action-keeps : (r : Reader) (x : ℕ) (m : List ℕ) → Fit r m → Keeps action Fit (action r x) m
+action-keeps r x m h =
+    subst (λ (a : Action Reader Report). Keeps action Fit a m) (sym (commutes (r .level) (view r) x))
+    (keeps-placed (r .level) (h .level) (step (rules (r .level)) (view r) x) m (step-keeps (rules (r .level)) (lawful (r .level)) (view r) x m (fit-view r m h)))
+
+pub fresh-fit : (level : ℕ) (m : List ℕ) → level ≤ maxLevel → maxSegment ≤ length m → Fit (fresh level) m
+unfolding malformed
+fresh-fit level m h k = record { level = h; room = k; formed = refl }
+
+-- ---- a call as the generic caller sees it
+pub reportOf-outcomeOf : (o : Option Report) → reportOf (outcomeOf o) ≡ o
+unfolding reportOf outcomeOf
+reportOf-outcomeOf none = refl
+reportOf-outcomeOf (some p) = refl
+
+abbrev seen : Call → Scan Reader Report
+seen k = record { report = reportOf (k .answer .outcome); taken = k .answer .taken; state = k .answer .reader; buffer = k .buffer }
+
+seen-scanCall : (r : Reader) (xs m : List ℕ) → seen (scanCall r xs m) ≡ scan action r xs m
+unfolding scanCall callOf
+seen-scanCall r xs m =
+    let u = scan action r xs m in
+    λ i. record { report = reportOf-outcomeOf (u .report) i; taken = u .taken; state = u .state; buffer = u .buffer }
+
+pub readScan-scan : (r : Reader) (xs m : List ℕ) → Fit r m → readScan r xs m ≡ scan action r xs m
+unfolding readScan
+readScan-scan r xs m h = ap seen (read-scan r xs m (h .level) (h .room) (h .formed)) ∙ seen-scanCall r xs m
+
+-- the same of a state that is placed at a level, for framing's theorems
+pub calls : (level : ℕ) → level ≤ maxLevel → (s : State ℕ) (xs m : List ℕ) → framing.Fit (rules level) s m → readScan (place level s) xs m ≡ scan action (place level s) xs m
+calls level l s xs m h = readScan-scan (place level s) xs m (fit-place level l s m h)
+
+-- a refused call does nothing
+abbrev idle : Reader → List ℕ → Scan Reader Report
+idle r m = record { report = none; taken = 0; state = r; buffer = m }
+
+seen-refusal : (r : Reader) (m : List ℕ) (n : ℕ) → seen (refusal r m n) ≡ idle r m
+unfolding refusal reportOf
+seen-refusal r m n = refl
+
+-- a reader and a buffer are fit, or every call on them is refused
+pub fit-or-refused : (r : Reader) (m : List ℕ) → Fit r m ⊎ ((xs : List ℕ) → readScan r xs m ≡ idle r m)
+unfolding readScan
+fit-or-refused r m = go (ltb maxLevel (r .level)) refl (ltb (length m) maxSegment) refl (malformed r) refl
+  where
+    go : (a : Bool) → ltb maxLevel (r .level) ≡ a → (b : Bool) → ltb (length m) maxSegment ≡ b → (c : Bool) → malformed r ≡ c
+        → Fit r m ⊎ ((xs : List ℕ) → readScan r xs m ≡ idle r m)
+    go true l b k c e = inr (λ xs. ap seen (read-badLevel r xs m (ltb-true _ _ l)) ∙ seen-refusal r m badLevel)
+    go false l true k c e = inr (λ xs. ap seen (read-bufferTooSmall r xs m (ltb-false _ _ l) (ltb-true _ _ k)) ∙ seen-refusal r m bufferTooSmall)
+    go false l false k true e = inr (λ xs. ap seen (read-badState r xs m (ltb-false _ _ l) (ltb-false _ _ k) e) ∙ seen-refusal r m badState)
+    go false l false k false e = inl (record { level = ltb-false _ _ l; room = ltb-false _ _ k; formed = e })
+
+-- ---- for consumers of reports: a fresh reader's trace of a line reports what the line reports
+pub trace-reports : (l : List ℕ) (level : ℕ) (m : List ℕ) → maxSegment ≤ length m → shownReports (rules level) (trace action (fresh level) l m .events) ≡ reportsOf (rules level) l
+trace-reports l level m room =
+    ap (λ (t : Trace Reader Report). shownReports (rules level) (t .events)) (trace-simulates (place level) (step (rules level)) action (commutes level) l (steps.fresh (rules level)) m)
+    ∙ meaning.trace-reports (rules level) (lawful level) l m room

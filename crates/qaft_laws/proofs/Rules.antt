@@ -1,0 +1,90 @@
+-- QAFT's rules obey what framing asks of rules, and reading undoes what the writer writes. Assumes nothing.
+use Prim.Native.Nat.{ℕ, _+_, _-_, _%_, _≤_, _<_}
+use mathlib.Core.Bool.{Bool, false}
+use mathlib.Core.List.{List, [], _∷_}
+use mathlib.Core.Path.{_≡_, refl, ap, _∙_}
+use native.Mathlib.Nat.{zero-add}
+use native.Mathlib.Omega.{arith}
+use borrow.Author.Tests.{ltb-false, le-ltb, le-leb}
+use lib.Dec.{ltb, eqb}
+use lib.ListN.{length, length-append}
+use lib.Seq.{take-at}
+use Rattle.common.proofs.Bools.{either}
+use Rattle.common.proofs.Each.{Each}
+use Rattle.framing.proofs.Within.{capped-low}
+use Rattle.framing.proofs.Written.{Accepted}
+use Rattle.framing.specs.Lawful.{Lawful}
+use Rattle.framing.specs.Reports.{checkFrom, checkOf, judged}
+use Rattle.framing.specs.Step.{capped}
+use Rattle.framing.specs.Writing.{Undoes}
+use Rattle.octets.proofs.Summing.{running-from}
+use Rattle.octets.specs.Sum.{sum}
+use Rattle.qaft.proofs.Check.{sum-checked}
+use Rattle.qaft.proofs.Escape.{plain-octet, escaped-octet}
+use Rattle.qaft.specs.Check.{checkOctet}
+use Rattle.qaft.specs.Escape.{writing}
+use Rattle.qaft.specs.Frame.{sealed, Writable}
+use Rattle.qaft.specs.Limits.{maxData, minSegment, maxSegment}
+use Rattle.qaft_report.specs.Answer.{reportLength}
+use Rattle.qaft_report.specs.Rules.{verdict, rules, framed}
+use Rattle.qaft_report.specs.declared.Report.{Report}
+use Rattle.qaft_report.specs.declared.Report.the-variants.{Frame}
+
+-- what holds of a frame within the limit, and of every report that shows no data, holds of a verdict
+verdict-ind : (P : Report → Type 0) (d b : Bool) (n s : ℕ) → ((p : Report) → reportLength p ≡ 0 → P p) → (n ≤ maxSegment → P (Frame (n - 1))) → P (verdict d b n s)
+unfolding verdict
+verdict-ind P d b n s bare frame =
+    either P d (λ _. bare _ refl)
+    (λ _. either P (ltb maxSegment n) (λ _. bare _ refl)
+    (λ e. either P (ltb n minSegment) (λ _. bare _ refl)
+    (λ _. either P (eqb s 0) (λ _. frame (ltb-false maxSegment n e)) (λ _. bare _ refl))))
+
+-- a report shows only octets that are stored
+pub verdict-shows : (d b : Bool) (n s : ℕ) → let p = verdict d b n s in 0 < reportLength p → (0 + reportLength p ≤ n) × (n ≤ maxSegment)
+verdict-shows d b n s =
+    verdict-ind (λ (p : Report). 0 < reportLength p → (0 + reportLength p ≤ n) × (n ≤ maxSegment)) d b n s
+    (λ p e h. absurd (omega (arith, e, h))) (λ k h. (omega arith, k))
+
+-- and at most 2,560 of them
+pub verdict-fits : (d b : Bool) (n s : ℕ) → reportLength (verdict d b n s) ≤ maxData
+verdict-fits d b n s = verdict-ind (λ (p : Report). reportLength p ≤ maxData) d b n s (λ p e. omega (arith, e)) (λ k. omega arith)
+
+module _ (level : ℕ) where
+  pub lawful : Lawful (rules level)
+  lawful = record { shows-stored = verdict-shows; skips-no-flag = λ x e. cc; blank-isBlank = refl }
+
+  pub undoes : Undoes (rules level) (writing level)
+  undoes = record {
+    flag-is = refl;
+    escape-is = refl;
+    escape-kept = (refl, refl);
+    plain = λ x e. (plain-octet level x e .0, plain-octet level x e .1, refl);
+    partner-kept = λ x e. (escaped-octet level x e .0, refl);
+    pair = λ x e. (escaped-octet level x e .1, refl);
+  }
+
+  -- ---- data with their check octet are a frame
+  checkOf-sum : (xs : List ℕ) → checkOf (rules level) xs ≡ sum xs % 256
+  unfolding checkOf checkFrom
+  checkOf-sum xs = running-from (checkFrom (rules level)) (λ n a. refl) (λ n a x xs. refl) xs 0 0 ∙ ap (λ (n : ℕ). n % 256) (zero-add (sum xs))
+
+  module _ (d : List ℕ) (some : 1 ≤ length d) (most : length d ≤ maxData) where
+    length-sealed : length (sealed d) ≡ length d + 1
+    length-sealed = length-append d (checkOctet d ∷ [])
+
+    verdict-sealed : verdict false false (capped (rules level) (length (sealed d))) (checkOf (rules level) (sealed d)) ≡ Frame (length d)
+    unfolding verdict
+    verdict-sealed =
+        let a : length d + 1 - 1 ≡ length d = omega arith in
+        rw (length-sealed, capped-low (rules level) (length d + 1) (omega arith), checkOf-sum (sealed d), le-ltb maxSegment (length d + 1) (omega arith), le-ltb (length d + 1) minSegment (omega arith), sum-checked d, a)
+
+    pub sealed-accepted : Accepted (rules level) sealed framed d
+    unfolding judged
+    sealed-accepted = (
+      omega (arith, length-sealed),
+      rw (verdict-sealed, le-leb (0 + length d) (length (sealed d)) (omega (arith, length-sealed)), take-at d (checkOctet d ∷ []) (length d) refl),
+    )
+
+  pub all-accepted : (ds : List (List ℕ)) → Writable ds → Each (Accepted (rules level) sealed framed) ds
+  all-accepted [] ok = tt
+  all-accepted (d ∷ ds) ok = (sealed-accepted d (ok .0) (ok .1), all-accepted ds (ok .2))

@@ -1,3 +1,0 @@
-pub mod Reports
-pub mod Stored
-pub mod Examples

@@ -1,0 +1,27 @@
+-- QAFT: the rule that the reader hands to the shared loop, its state there, and the verdict on what comes back. Cited by the contracts of the reader's
+-- functions; that the rule's meaning is QAFT's rules is a law (proofs/SharedRule). Assumes nothing.
+use Prim.Native.Nat.{ℕ}
+use mathlib.Core.Bool.{Bool, false, cond}
+use Rattle.deframer.specs.Rule.{sumCheck}
+use Rattle.deframer.specs.declared.Rule.{Rule}
+use Rattle.deframer.specs.declared.State.{State}
+use Rattle.qaft.specs.Escape.{mask, escapesOf}
+use Rattle.qaft.specs.Limits.{maxSegment}
+use Rattle.qaft_read.specs.declared.Reader.{Reader}
+use Rattle.qaft_read.specs.declared.Verdict.{Verdict}
+use Rattle.qaft_read.specs.declared.Verdict.the-variants.{Open, Closed}
+use Rattle.qaft_report.specs.Rules.{verdict}
+
+-- flag and escape alone have a meaning, at both levels; every pair is good, and stands for its octet xor 20
+abbrev pub rule : Rule
+rule = record { escapes = escapesOf 0; mask = mask; strict = false; cap = maxSegment; check = sumCheck }
+
+abbrev pub stateOf : Reader → State
+stateOf r = record { synced = r .synced; pending = r .pending; bad = false; count = r .count; check = r .sum }
+
+abbrev pub readerAt : (level : ℕ) → State → Reader
+readerAt level s = record { level = level; synced = s .synced; pending = s .pending; count = s .count; sum = s .check }
+
+-- a segment that a flag closed, or one that is still open
+unfoldable pub verdictOf : (closed : Bool) → State → Verdict
+verdictOf closed s = cond closed (Closed (verdict (s .pending) (s .bad) (s .count) (s .check))) Open

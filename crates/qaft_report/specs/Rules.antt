@@ -1,0 +1,49 @@
+-- QAFT: the rules by which its lines are read, for framing: the paper's sentences one by one. Cited by the reader's definitions and by the theorems.
+-- Assumes nothing.
+--
+--   verdict dangling bad n sum   what a segment is reported as (the paper's "judgement" of a "stretch")
+--   rules level                  all rules, at a level
+--   framed d                     the report of a frame, with its data d
+use Prim.Native.Nat.{ℕ, _+_, _-_, _%_}
+use mathlib.Core.Bool.{Bool, false, cond}
+use mathlib.Core.List.{List}
+use lib.Dec.{ltb, eqb}
+use lib.ListN.{length}
+use Rattle.framing.specs.Reports.{Reported}
+use Rattle.framing.specs.Rules.{Rules}
+use Rattle.qaft.specs.Escape.{flag, escapeOctet, masked}
+use Rattle.qaft.specs.Limits.{checkSize, minSegment, maxSegment}
+use Rattle.qaft_report.specs.Answer.{reportLength}
+use Rattle.qaft_report.specs.declared.Report.{Report}
+use Rattle.qaft_report.specs.declared.Report.the-variants.{Frame, Aborted, Long, Short, BadCheck}
+
+-- "first that applies: dangling 7D is aborted; over 2,561 octets after undoing escapes is long; under 2 is short; a sum not 0 is a bad check;
+-- else a frame", which has its number of data octets, all but the check
+unfoldable pub verdict : (dangling bad : Bool) (n sum : ℕ) → Report
+verdict dangling bad n sum =
+    cond dangling Aborted
+    (cond (ltb maxSegment n) Long
+    (cond (ltb n minSegment) Short
+    (cond (eqb sum 0) (Frame (n - checkSize))
+    BadCheck)))
+
+-- "a raw 11 or 13 is data at both levels": no octet is skipped; "7D and the next octet x stand for x xor 20, for every x": no pair is bad; the count
+-- goes up to 2,561 octets, "2,562 stands for all above"; the running check is "their sum modulo 256"; a frame's data stand at the buffer's front
+abbrev pub rules : (level : ℕ) → Rules ℕ Report
+rules level = record {
+  flag = flag;
+  escape = escapeOctet;
+  skips = λ x. false;
+  partner = masked;
+  badPair = λ y. false;
+  cap = maxSegment;
+  blank = 0;
+  add = λ n sum x. (sum + x) % 256;
+  isBlank = λ sum. eqb sum 0;
+  verdict = verdict;
+  from = λ p. 0;
+  size = reportLength;
+}
+
+abbrev pub framed : (d : List ℕ) → Reported Report
+framed d = record { report = Frame (length d); octets = d }
