@@ -1,4 +1,5 @@
 pub mod Checks
 pub mod Ways
 pub mod Runs
+pub mod Judged
 pub mod Steps

@@ -61,4 +61,4 @@ module _ (r : Rule) (s : State) where
   step-index x t i y e =
       subst Within e
       (stepInto-ind (rulesOf r) advances stores closes Within (view s) x
-      (closedInto-cases (rulesOf r) advances stores closes Within (view s) (λ d b n a. tt) tt) (λ _ b y. stored-within b y) (λ _. tt) tt)
+      (closedInto-cases (rulesOf r) advances stores closes Within (view s) (λ d b n a. tt) tt) (λ _ b y _. stored-within b y) (λ _. tt) tt)

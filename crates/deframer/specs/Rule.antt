@@ -16,6 +16,9 @@ sumCheck = 0
 abbrev pub registerCheck : ℕ
 registerCheck = 1
 
+abbrev pub firstCheck : ℕ
+firstCheck = 2
+
 -- raw octets that are escaped, but for the flag and the escape, are skipped
 unfoldable pub isSkipped : Rule → (x : ℕ) → Bool
 isSkipped r x = cond (eqb x (r .escapes .flag)) false (cond (eqb x (r .escapes .escape)) false (isEscaped (r .escapes) x))
@@ -31,7 +34,7 @@ isBadPair r y = r .strict && not (isPartner (r .escapes) y)
 abbrev pub blankOf : (kind : ℕ) → ℕ
 blankOf kind = cond (eqb kind registerCheck) preset 0
 
--- after one octet more, n octets before it: the sum modulo 256; the register; else the first octet
+-- after one octet more, n octets before it: the sum modulo 256; the register; for firstCheck and every other number the first octet
 unfoldable pub added : (kind n a x : ℕ) → ℕ
 added kind n a x =
     cond (eqb kind sumCheck) ((a + x) % 256)

@@ -73,7 +73,7 @@ module _ {A R : Type 0} (rules : Rules A R) where
         let o : Fit (opened rules) m = record { room = h .room; formed = opened-formed } in
         stepInto-ind rules (λ t. advance t) (λ t i y. store t i y) (λ r t. emit r t) (KeepsFit m) s x
         (closedInto-cases rules (λ t. advance t) (λ t i y. store t i y) (λ r t. emit r t) (KeepsFit m) s (λ d b n a. o) o)
-        (λ y b z. stored-keeps s b z m y (h .room))
+        (λ y b z _. stored-keeps s b z m y (h .room))
         (λ y. record { room = h .room; formed = awaiting-formed s y (h .formed) })
         h
 

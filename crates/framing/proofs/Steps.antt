@@ -1,6 +1,7 @@
 -- Laws of one octet's step. Assumes nothing.
 use Prim.Native.Nat.{ℕ}
 use mathlib.Core.Bool.{Bool, true, false, cond}
+use mathlib.Core.Logic.{_⊎_, inl, inr}
 use mathlib.Core.Path.{_≡_, refl}
 use lib.Dec.{eqb}
 use Rattle.common.proofs.Bools.{either}
@@ -25,7 +26,7 @@ module _ {A R : Type 0} (rules : Rules A R) where
 
     pub stepInto-ind : (P : X → Type 0) (s : State A) (x : ℕ)
         → P (closedInto rules advance store emit s)
-        → (s .synced ≡ true → (b : Bool) (y : ℕ) → P (storedInto rules advance store emit s b y))
+        → (s .synced ≡ true → (b : Bool) (y : ℕ) → (y ≡ x) ⊎ (y ≡ rules .partner x) → P (storedInto rules advance store emit s b y))
         → (s .synced ≡ true → P (advance (awaiting rules s)))
         → P (advance s)
         → P (stepInto rules advance store emit s x)
@@ -34,7 +35,7 @@ module _ {A R : Type 0} (rules : Rules A R) where
         either P (eqb x (rules .flag)) (λ _. f)
         (λ _. either P (s .synced)
         (λ e. either P (rules .skips x) (λ _. q)
-        (λ _. either P (s .pending) (λ _. j e _ _) (λ _. either P (eqb x (rules .escape)) (λ _. w e) (λ _. j e _ _))))
+        (λ _. either P (s .pending) (λ _. j e _ _ (inr refl)) (λ _. either P (eqb x (rules .escape)) (λ _. w e) (λ _. j e _ _ (inl refl)))))
         (λ _. q))
 
     -- the actions of one type taken to another

@@ -6,6 +6,7 @@ use mathlib.Core.Option.{Option, none, some}
 use mathlib.Core.Path.{_≡_, refl, sym, ap, _∙_}
 use native.Mathlib.Omega.{arith}
 use lib.ListN.{length, drop, set, length-drop}
+use Rattle.common.proofs.Each.{Each, each-all}
 use Rattle.line.proofs.Scan.{scan-taken, scan-report-takes}
 use Rattle.line.proofs.Trace.{trace-++, trace-scan}
 use Rattle.line.specs.Scan.{Action, advance, store, emit, Scan, after, scanOn, scan}
@@ -32,19 +33,24 @@ module _ {S R : Type 0} (f : S → ℕ → Action S R) where
     Keeps (store t i x) m = Good t (set m i x)
     Keeps (emit r t) m = Good t m
 
-    module _ (keeps : (s : S) (x : ℕ) (m : List ℕ) → Good s m → Keeps (f s x) m) where
-      scanOn-good : (a : Action S R) (xs m : List ℕ) → Keeps a m → ((t : S) (n : List ℕ) → Good t n → Good (scan f t xs n .state) (scan f t xs n .buffer))
-          → Good (scanOn a (λ t n. scan f t xs n) m .state) (scanOn a (λ t n. scan f t xs n) m .buffer)
-      unfolding scanOn after
-      scanOn-good (advance t) xs m ok e = e t m ok
-      scanOn-good (store t i x) xs m ok e = e t (set m i x) ok
-      scanOn-good (emit r t) xs m ok e = ok
+    scanOn-good : (a : Action S R) (xs m : List ℕ) → Keeps a m → ((t : S) (n : List ℕ) → Good t n → Good (scan f t xs n .state) (scan f t xs n .buffer))
+        → Good (scanOn a (λ t n. scan f t xs n) m .state) (scanOn a (λ t n. scan f t xs n) m .buffer)
+    unfolding scanOn after
+    scanOn-good (advance t) xs m ok e = e t m ok
+    scanOn-good (store t i x) xs m ok e = e t (set m i x) ok
+    scanOn-good (emit r t) xs m ok e = ok
 
-      -- whatever the chunk, a good state and buffer stay good
+    -- a good state and buffer stay good on a chunk of octets Q, where each of these keeps them so
+    pub scan-good-of : (Q : ℕ → Type 0) → ((s : S) (x : ℕ) (m : List ℕ) → Q x → Good s m → Keeps (f s x) m)
+        → (xs : List ℕ) → Each Q xs → (s : S) (m : List ℕ) → Good s m → Good (scan f s xs m .state) (scan f s xs m .buffer)
+    unfolding scan
+    scan-good-of Q keeps [] q s m ok = ok
+    scan-good-of Q keeps (x ∷ xs) q s m ok = scanOn-good (f s x) xs m (keeps s x m (q .0) ok) (λ t n h. scan-good-of Q keeps xs (q .1) t n h)
+
+    module _ (keeps : (s : S) (x : ℕ) (m : List ℕ) → Good s m → Keeps (f s x) m) where
+      -- whatever the chunk
       pub scan-good : (xs : List ℕ) (s : S) (m : List ℕ) → Good s m → Good (scan f s xs m .state) (scan f s xs m .buffer)
-      unfolding scan
-      scan-good [] s m ok = ok
-      scan-good (x ∷ xs) s m ok = scanOn-good (f s x) xs m (keeps s x m ok) (λ t n h. scan-good xs t n h)
+      scan-good xs = scan-good-of (λ _. Unit {0}) (λ s x m _ h. keeps s x m h) xs (each-all (λ _. Unit {0}) (λ _. tt) xs)
 
       traceOn-good : (a : Action S R) (xs m : List ℕ) → Keeps a m → ((t : S) (n : List ℕ) → Good t n → Good (trace f t xs n .state) (trace f t xs n .buffer))
           → Good (traceOn a (λ t n. trace f t xs n) m .state) (traceOn a (λ t n. trace f t xs n) m .buffer)

@@ -20,7 +20,7 @@ use Rattle.listing.specs.Line.{reportLine, lineOf}
 use Rattle.listing_laws.specs.Listing.{textOf, linesFrom}
 use Rattle.qaft_report.specs.Answer.{reportLength}
 use Rattle.qaft_report.specs.Answer as answer
-use Rattle.qaft_report.specs.Rules.{rules}
+use Rattle.qaft_rules.specs.Rules.{rules}
 use Rattle.qaft_report.specs.declared.Report.{Report}
 
 -- the lines of reports behind the n-th, and the number of the last

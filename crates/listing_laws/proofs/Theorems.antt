@@ -25,7 +25,7 @@ use Rattle.qaft.specs.Limits.{maxLevel, maxSegment}
 use Rattle.qaft_laws.proofs.Reader.{trace-reports, fresh-fit}
 use Rattle.qaft_read.specs.State.{fresh}
 use Rattle.qaft_read.specs.Step.{action}
-use Rattle.qaft_report.specs.Rules.{rules}
+use Rattle.qaft_rules.specs.Rules.{rules}
 use Rattle.qaft_report.specs.declared.Report.{Report}
 
 -- a short line, written where there is room for it

@@ -5,7 +5,7 @@ use Rattle.capture.specs.Whole.{hasFlag, before, after}
 use Rattle.listing.specs.Line.{heading, details, reportLine, endLine}
 use Rattle.listing_laws.specs.Listing.{textOf, linesFrom, listingOf}
 use Rattle.framing.specs.Reports.{afterFlag, atFront, segments, unskipped, onto, ontoPair, unescape, checkFrom, checkOf, judged, reportsOfOctets, reportsOfSegment, reportsOfSegments, reportsOf}
-use Rattle.qaft_report.specs.Rules.{verdict}
+use Rattle.qaft_rules.specs.Rules.{verdict}
 use Rattle.text.specs.Text.{ascii, decimalOnto, decimal, hex}
 
 -- "For AA 7E 40 41 7F 7E 10 7D 7E 7E 05 7E 33 it prints"

@@ -9,7 +9,7 @@ use lib.ListN.{length}
 use Rattle.capture.specs.Whole.{before, after}
 use Rattle.framing.specs.Reports.{Reported, reportsOf}
 use Rattle.listing.specs.Line.{heading, reportLine, endLine}
-use Rattle.qaft_report.specs.Rules.{rules}
+use Rattle.qaft_rules.specs.Rules.{rules}
 use Rattle.qaft_report.specs.declared.Report.{Report}
 
 -- "1 frame 2 4041": a frame's line has the number of its data octets and the octets

@@ -8,7 +8,7 @@ use Rattle.octets.specs.Sum.{sum}
 use Rattle.qaft.specs.Escape.{isEscaped}
 use Rattle.qaft.specs.Check.{checkOctet}
 use Rattle.qaft.specs.Frame.{frame}
-use Rattle.qaft_report.specs.Rules.{verdict}
+use Rattle.qaft_rules.specs.Rules.{verdict}
 use Rattle.line.specs.Scan.{after, scanOn, scan}
 use Rattle.qaft_read.specs.State.{malformed}
 use Rattle.qaft_read.specs.Step.{action}

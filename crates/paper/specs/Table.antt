@@ -19,7 +19,7 @@ use Rattle.qaft.specs.Answers as answers
 use Rattle.qaft_read.specs.State.{fresh}
 use Rattle.qaft_read.specs.Read.{read}
 use Rattle.qaft_report.specs.Answer.{number, dataLength, shown}
-use Rattle.qaft_report.specs.Rules.{rules}
+use Rattle.qaft_rules.specs.Rules.{rules}
 use Rattle.qaft_report.specs.declared.Report.{Report}
 use Rattle.qaft_report.specs.declared.Report.the-variants.{Aborted, Short, BadCheck}
 

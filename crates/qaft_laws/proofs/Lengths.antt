@@ -18,7 +18,7 @@ use Rattle.qaft_read.specs.State.{view, place}
 use Rattle.qaft_read.specs.Step.{action}
 use Rattle.qaft_read.specs.declared.Reader.{Reader}
 use Rattle.qaft_report.specs.Answer.{reportLength}
-use Rattle.qaft_report.specs.Rules.{rules}
+use Rattle.qaft_rules.specs.Rules.{rules}
 use Rattle.qaft_report.specs.declared.Outcome.the-variants.{Reported}
 use Rattle.qaft_report.specs.declared.Report.{Report}
 

@@ -29,7 +29,7 @@ use Rattle.qaft_read.specs.Read.{Call, outcomeOf, callOf, scanCall, refusal, re
 use Rattle.qaft_read.specs.State.{fresh, view, place, malformed}
 use Rattle.qaft_read.specs.Step.{action}
 use Rattle.qaft_read.specs.declared.Reader.{Reader}
-use Rattle.qaft_report.specs.Rules.{rules}
+use Rattle.qaft_rules.specs.Rules.{rules}
 use Rattle.qaft_report.specs.declared.Report.{Report}
 
 -- ---- what no call refuses, and framing's word for it

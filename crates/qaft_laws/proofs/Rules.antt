@@ -26,7 +26,7 @@ use Rattle.qaft.specs.Escape.{writing}
 use Rattle.qaft.specs.Frame.{sealed, Writable}
 use Rattle.qaft.specs.Limits.{maxData, minSegment, maxSegment}
 use Rattle.qaft_report.specs.Answer.{reportLength}
-use Rattle.qaft_report.specs.Rules.{verdict, rules, framed}
+use Rattle.qaft_rules.specs.Rules.{verdict, rules, framed}
 use Rattle.qaft_report.specs.declared.Report.{Report}
 use Rattle.qaft_report.specs.declared.Report.the-variants.{Frame}
 

@@ -38,11 +38,13 @@ use Rattle.qaft_read.specs.State.{fresh, view, place, malformed}
 use Rattle.qaft_read.specs.Step.{action}
 use Rattle.qaft_read.specs.declared.Answer.{Answer}
 use Rattle.qaft_read.specs.declared.Reader.{Reader}
-use Rattle.qaft_report.specs.Rules.{rules, framed}
+use Rattle.qaft_rules.specs.Rules.{rules, framed}
 use Rattle.qaft_report.specs.declared.Outcome.the-variants.{Refused}
 use Rattle.qaft_report.specs.declared.Report.{Report}
-use Rattle.qaft_write.proofs.Sending.{done-wrote, octetsOf, done-writable, sent-line}
-use Rattle.qaft_write.specs.Sending.{Lent, sent, AllDone}
+use Rattle.qaft_write.proofs.Refusals.{done-level, done-wrote}
+use Rattle.qaft_write.proofs.Sending.{done-writable, sent-line}
+use Rattle.qaft_write.specs.Sending.{Lent, octetsOf, sent, AllDone}
+use Rattle.qaft_write.specs.Write.{writeFrame}
 
 -- 1. Cutting: every two ways of cutting a line into chunks, empty ones too, give the same reports, each with the same buffer and so the same
 -- data, the same last state and the same last buffer; from every state and with every buffer, refused ones too.
@@ -81,16 +83,17 @@ buffer-after-a-call r xs m = by-tests (ltb maxLevel (r .level)) (ltb (length m) 
 
 -- 4. Demand 2: frames that were written one after another, each call answered with 0 and with any out buffer of its own, come back when they are
 -- read at the same level, exactly and in order, however what was written is cut, and whatever the reader's buffer holds.
-pub written-then-read : (level : ℕ) (cs : List Lent) → AllDone level false cs
-    → (m : List ℕ) → maxSegment ≤ length m → (xss : List (List ℕ)) → flatten xss ≡ sent level false cs
+pub written-then-read : (level : ℕ) (cs : List Lent) → AllDone (writeFrame level) false cs
+    → (m : List ℕ) → maxSegment ≤ length m → (xss : List (List ℕ)) → flatten xss ≡ sent (writeFrame level) false cs
     → shownReports (rules level) (readChunks readScan (fresh level) xss m .events) ≡ map framed (octetsOf cs)
 unfolding sent readChunks noEvent shownReports flatten line
 written-then-read level [] ok m fits xss e = ap (λ (t : Trace Reader Report). shownReports (rules level) (t .events)) (every-cutting-reads-alike xss [] e (fresh level) m)
 written-then-read level (c ∷ cs) ok m fits xss e =
-    let h = done-wrote level false (c .octets) (c .out) (ok .0) .level-good in
+    let h = done-level level false (c .octets) (c .out) (ok .0) in
     let ds = octetsOf (c ∷ cs) in
-    reads-what-the-line-reports level h m fits (line level ds) xss (e ∙ sent-line level (c ∷ cs) ok)
-    ∙ reportsOf-frames (rules level) (writing level) (undoes level) sealed framed ds (all-accepted level ds (done-writable level false (c ∷ cs) ok))
+    let w = done-wrote level in
+    reads-what-the-line-reports level h m fits (line level ds) xss (e ∙ sent-line (writeFrame level) (writing level) sealed w (c ∷ cs) ok)
+    ∙ reportsOf-frames (rules level) (writing level) (undoes level) sealed framed ds (all-accepted level ds (done-writable (writeFrame level) (writing level) sealed w false (c ∷ cs) ok))
 
 -- What a consumer of reports needs: a call and then the rest of the chunk are the trace of the chunk, for a state and a buffer that no call refuses.
 pub read-then-rest : (r : Reader) (xs m : List ℕ) → Fit r m → trace action r xs m ≡ onwards xs (trace action) (readScan r xs m)

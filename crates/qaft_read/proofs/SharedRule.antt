@@ -11,7 +11,7 @@ use Rattle.framing.specs.Closing.{closing}
 use Rattle.qaft.specs.Escape.{flag, escapeOctet, masked, withOthers, escapesOf}
 use Rattle.qaft.specs.Limits.{maxSegment}
 use Rattle.qaft_read.specs.Scanned.{rule}
-use Rattle.qaft_report.specs.Rules.{rules}
+use Rattle.qaft_rules.specs.Rules.{rules}
 
 -- nothing is skipped: flag and escape alone are escaped
 skips-none : (x : ℕ) → isSkipped rule x ≡ false

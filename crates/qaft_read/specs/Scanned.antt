@@ -10,7 +10,7 @@ use Rattle.qaft.specs.Limits.{maxSegment}
 use Rattle.qaft_read.specs.declared.Reader.{Reader}
 use Rattle.qaft_read.specs.declared.Verdict.{Verdict}
 use Rattle.qaft_read.specs.declared.Verdict.the-variants.{Open, Closed}
-use Rattle.qaft_report.specs.Rules.{verdict}
+use Rattle.qaft_rules.specs.Rules.{verdict}
 
 -- flag and escape alone have a meaning, at both levels; every pair is good, and stands for its octet xor 20
 abbrev pub rule : Rule

@@ -4,7 +4,7 @@ use Rattle.framing.specs.Step.{stepInto}
 use Rattle.line.specs.Scan.{Action, advance, store, emit}
 use Rattle.qaft_read.specs.State.{view, place}
 use Rattle.qaft_read.specs.declared.Reader.{Reader}
-use Rattle.qaft_report.specs.Rules.{rules}
+use Rattle.qaft_rules.specs.Rules.{rules}
 use Rattle.qaft_report.specs.declared.Report.{Report}
 
 -- one octet, as an action of the generic reader of the crate line; the level stays

@@ -1,6 +1,6 @@
-// QAFT: the chunk reader. The state and its names: specs/State; one octet: specs/Step; a call: specs/Read; the rules of reading,
-// reports and their numbers: the crate qaft_report. The loop over a chunk is the deframer's, which all framings share; what the
-// reader hands over and how it judges what comes back: specs/Scanned.
+// QAFT: the chunk reader. The state and its names: specs/State; one octet: specs/Step; a call: specs/Read; the rules of reading:
+// the crate qaft_rules; reports and their numbers: qaft_report. The loop over a chunk is the deframer's, which all framings share;
+// what the reader hands over and how it judges what comes back: specs/Scanned.
 ghost use mathlib.Core.Path.{_≡_};
 ghost use mathlib.Core.Bool.{not};
 ghost use Prim.Native.Nat.{_<_, _≤_};

@@ -1,3 +1,1 @@
 pub mod Answer
-pub mod Rules
-pub mod Examples

@@ -1,20 +1,26 @@
--- The frame writer's cases: each refusal, and the frame written. Assumes nothing.
+-- The frame writer's cases: each refusal, and the frame written; what is known of a call that is answered with 0. Assumes nothing.
 use Prim.Native.Nat.{ℕ, _≤_, _<_}
 use mathlib.Core.Bool.{Bool}
 use mathlib.Core.List.{List, [], _∷_}
-use mathlib.Core.Path.{_≡_, sym, ap, ap₂, _∙_}
-use borrow.Author.Tests.{lt-ltb, le-ltb, eq-eqb, ne-eqb}
+use mathlib.Core.Path.{_≡_, refl, ap, ap₂, _∙_}
+use native.Mathlib.Omega.{arith}
+use borrow.Author.Tests.{lt-ltb, le-ltb, eq-eqb, ne-eqb, ltb-false, eqb-false}
 use lib.ListN.{length}
+use Rattle.common.proofs.Refusals.{Passed, guarded-passed}
 use Rattle.escapes.specs.declared.Escapes.{Escapes}
-use Rattle.framer.proofs.Written.{written-fits, written-none, written-zero, written-some, frame-some}
+use Rattle.framer.proofs.Written.{frame-some}
 use Rattle.framer.specs.Write.{framed, writtenLength, writtenInto}
 use Rattle.qaft.proofs.Escape.{frame-escapesOf}
+use Rattle.qaft.proofs.Frame.{frame-fits}
 use Rattle.qaft.specs.Answers.{done, noData, dataTooLong, outTooSmall, badLevel}
 use Rattle.qaft.specs.Check.{checkOctet}
 use Rattle.qaft.specs.Escape.{writing, escapesOf}
 use Rattle.qaft.specs.Frame.{sealed, frame}
-use Rattle.qaft.specs.Limits.{maxLevel, maxData}
-use Rattle.qaft_write.specs.Write.{Outcome, refusals, refusal, wrote, writeFrame}
+use Rattle.qaft.specs.Limits.{maxLevel, maxData, maxFrame}
+use Rattle.qaft_write.proofs.Answer.{answered-unfit, answered-fit}
+use Rattle.qaft_write.proofs.Sending.{Wrote}
+use Rattle.qaft_write.specs.Answer.{Outcome, refusal, wrote}
+use Rattle.qaft_write.specs.Write.{refusals, writeFrame}
 use Rattle.qaft_write.specs.declared.Written.{Written}
 
 module _ (level : ℕ) (atFlag : Bool) (d out : List ℕ) where
@@ -59,16 +65,33 @@ module _ (level : ℕ) (atFlag : Bool) (d out : List ℕ) where
           buffer = me ∙ ap (λ (ys : List ℕ). writtenInto ys out) same
 
           pub write-unfit : n ≡ 0 → (_≡_ {A = Written} (record { number = outTooSmall; length = 0 }) (writeFrame level atFlag d out .answer)) × (m ≡ writeFrame level atFlag d out .buffer)
-          unfolding refusal
-          write-unfit z =
-              let small = written-zero (frame level atFlag d) out nonempty n answer z in
-              let w = write-outTooSmall small in
-              (sym (ap (λ (o : Outcome). o .answer) w), buffer ∙ written-none (frame level atFlag d) out small .1 ∙ sym (ap (λ (o : Outcome). o .buffer) w))
+          write-unfit = answered-unfit (frame level atFlag d) out nonempty n m answer buffer (writeFrame level atFlag d out) outTooSmall write-outTooSmall
 
           pub write-fit : (n ≡ 0 → ⊥) → (_≡_ {A = Written} (record { number = done; length = n }) (writeFrame level atFlag d out .answer)) × (m ≡ writeFrame level atFlag d out .buffer)
-          unfolding wrote
-          write-fit z =
-              let room = written-some (frame level atFlag d) out nonempty n answer z in
-              let f = written-fits (frame level atFlag d) out room in
-              let w = write-done room in
-              (ap (λ (n : ℕ). record { number = done; length = n }) (answer ∙ f .0) ∙ sym (ap (λ (o : Outcome). o .answer) w), buffer ∙ f .1 ∙ sym (ap (λ (o : Outcome). o .buffer) w))
+          write-fit = answered-fit (frame level atFlag d) out nonempty n m answer buffer (writeFrame level atFlag d out) write-done
+
+-- a frame of 1 to 2,560 octets is written into any buffer of 5,124
+pub write-written : (level : ℕ) → level ≤ maxLevel → (atFlag : Bool) (d m : List ℕ) → 1 ≤ length d → length d ≤ maxData → maxFrame ≤ length m
+    → writeFrame level atFlag d m ≡ wrote m (frame level atFlag d)
+write-written level h atFlag d m some most room =
+    let fits = frame-fits level atFlag d most in
+    write-done level atFlag d m h (λ e. omega (arith, e)) most (omega arith)
+
+-- a call that is answered with 0 passed every test: its level is 0 or 1, and it wrote its frame, which has 1 to 2,560 octets
+done-passed : (level : ℕ) (atFlag : Bool) (d m : List ℕ) → writeFrame level atFlag d m .answer .number ≡ done → Passed (refusals level atFlag d (length m))
+unfolding writeFrame refusals refusal
+done-passed level atFlag d m z =
+    guarded-passed (refusal m) (wrote m (frame level atFlag d)) (λ (o : Outcome). o .answer .number) done (λ n. refl) (refusals level atFlag d (length m))
+    (λ e. omega (arith, e), (λ e. omega (arith, e), (λ e. omega (arith, e), (λ e. omega (arith, e), tt)))) z
+
+pub done-level : (level : ℕ) (atFlag : Bool) (d m : List ℕ) → writeFrame level atFlag d m .answer .number ≡ done → level ≤ maxLevel
+unfolding refusals
+done-level level atFlag d m z = ltb-false _ _ (done-passed level atFlag d m z .0)
+
+pub done-wrote : (level : ℕ) (atFlag : Bool) (d m : List ℕ) → writeFrame level atFlag d m .answer .number ≡ done → Wrote (writeFrame level) (writing level) sealed atFlag d m
+unfolding refusals frame
+done-wrote level atFlag d m z =
+    let p = done-passed level atFlag d m z in
+    let some = eqb-false (length d) 0 (p .1 .0) in
+    let most : length d ≤ maxData = ltb-false _ _ (p .1 .1 .0) in
+    record { some = omega (arith, some); most = most; written = write-done level atFlag d m (ltb-false _ _ (p .0)) some most (ltb-false _ _ (p .1 .1 .1 .0)) }

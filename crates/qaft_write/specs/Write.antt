@@ -4,25 +4,11 @@ use mathlib.Core.Bool.{Bool}
 use mathlib.Core.List.{List, [], _∷_}
 use lib.Dec.{ltb, eqb}
 use lib.ListN.{length}
-use Rattle.common.specs.Buffer.{withFront}
 use Rattle.common.specs.Refusals.{Refusal, guarded}
-use Rattle.qaft.specs.Answers.{done, noData, dataTooLong, outTooSmall, badLevel}
+use Rattle.qaft.specs.Answers.{noData, dataTooLong, outTooSmall, badLevel}
 use Rattle.qaft.specs.Frame.{frame}
 use Rattle.qaft.specs.Limits.{maxLevel, maxData}
-use Rattle.qaft_write.specs.declared.Written.{Written}
-
--- a call's outcome: its answer, and the out buffer after it
-pub record Outcome : Type 0 where
-  pub answer : Written
-  pub buffer : List ℕ
-
--- a refusal with the number n: "changes nothing lent, and every other number in the answer is 0"
-unfoldable pub refusal : (out : List ℕ) (n : ℕ) → Outcome
-refusal out n = record { answer = record { number = n; length = 0 }; buffer = out }
-
--- octets at the front of the out buffer, "their number in the answer beside 0, and the rest is as before"
-unfoldable pub wrote : (out : List ℕ) → List ℕ → Outcome
-wrote out xs = record { answer = record { number = done; length = length xs }; buffer = withFront xs out }
+use Rattle.qaft_write.specs.Answer.{Outcome, refusal, wrote}
 
 -- the writer's refusals, "order 6, 1, 2, 3"; room is the length of the out buffer
 unfoldable pub refusals : (level : ℕ) (atFlag : Bool) (d : List ℕ) (room : ℕ) → List Refusal

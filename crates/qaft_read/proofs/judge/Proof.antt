@@ -4,7 +4,7 @@ use borrow.Author.Tests.{lt-ltb, le-ltb, eq-eqb, ne-eqb}
 use Rattle.qaft_read.proofs.judge.Statement.{statement}
 use Rattle.qaft_read.proofs.judge.Tie as tie
 use Rattle.qaft_read.specs.Scanned.{verdictOf}
-use Rattle.qaft_report.specs.Rules.{verdict}
+use Rattle.qaft_rules.specs.Rules.{verdict}
 
 returns : tie.Need-returns
 unfolding verdictOf verdict

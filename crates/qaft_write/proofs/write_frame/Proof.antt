@@ -5,7 +5,7 @@ use borrow.Author.Needs.{needs}
 use Rattle.qaft_write.proofs.Refusals.{write-badLevel, write-noData, write-dataTooLong, write-unfit, write-fit}
 use Rattle.qaft_write.proofs.write_frame.Statement.{statement}
 use Rattle.qaft_write.proofs.write_frame.Tie as tie
-use Rattle.qaft_write.specs.Write.{Outcome, refusal}
+use Rattle.qaft_write.specs.Answer.{Outcome, refusal}
 
 refused-requires : tie.Need-refused-requires
 refused-requires c κs = tt

@@ -3,9 +3,9 @@ use mathlib.Core.List.{[], _∷_, _++_}
 use mathlib.Core.Path.{_≡_, refl}
 use lib.ListN.{replicate}
 use Rattle.framing.specs.Reports.{Reported, afterFlag, atFront, segments, unskipped, onto, ontoPair, unescape, checkFrom, checkOf, judged, reportsOfOctets, reportsOfSegment, reportsOfSegments, reportsOf}
-use Rattle.qaft_report.specs.Rules.{verdict, rules, framed}
+use Rattle.qaft_rules.specs.Rules.{verdict, rules, framed}
 use Rattle.qaft_report.specs.declared.Report.{Report}
 use Rattle.qaft_report.specs.declared.Report.the-variants.{Aborted, Long, Short, BadCheck}
 
 -- a report that shows no data
 abbrev bare : Report → Reported Report

@@ -1,0 +1,1 @@
+// No code: the rules by which QAFT lines are read (specs/Rules), and worked lines (specs/Examples).
