@@ -3,3 +3,4 @@ pub mod Trace
 pub mod Chunks
 pub mod Gather
 pub mod Simulation
+pub mod Texts

@@ -10,7 +10,7 @@ use lib.ListN.{length, drop, set}
 use Rattle.line.proofs.Chunks.{Keeps, readChunks-trace}
 use Rattle.line.specs.Scan.{Action, advance, store, emit, Scan, after, scanOn, scan}
 use Rattle.line.specs.Trace.{Trace, noEvent, oneEvent, traceOn, trace, andThen, reported, readChunk, readChunks}
-use Rattle.line.specs.Simulation.{mapAction, mapScan, placeAction, placeScan, placeTrace}
+use Rattle.line.specs.Simulation.{mapAction, mapScan, placeAction, placeScan, placeTrace, retellTrace}
 
 -- ---- a call: states taken by h, and reports by j
 module _ {S T R Q : Type 0} (h : S → T) (j : R → Q) (g : S → ℕ → Action S R) (f : T → ℕ → Action T Q) (commutes : (s : S) (x : ℕ) → f (h s) x ≡ mapAction h j (g s x)) where
@@ -67,6 +67,21 @@ module _ {S T R : Type 0} (h : S → T) (g : S → ℕ → Action S R) (f : T �
     pub readChunks-simulates : (xss : List (List ℕ)) (s : S) (m : List ℕ) → Good s m → readChunks call (h s) xss m ≡ placeTrace h (trace g s (flatten xss) m)
     readChunks-simulates xss s m k =
         readChunks-trace f Placed step-keeps call call-scan xss (h s) m (s, refl, k) ∙ trace-simulates (flatten xss) s m
+
+-- ---- a whole line: reports alone
+module _ {S R Q : Type 0} (j : R → Q) (g : S → ℕ → Action S R) (f : S → ℕ → Action S Q) (commutes : (s : S) (x : ℕ) → f s x ≡ mapAction (λ s. s) j (g s x)) where
+  traceOn-retells : (a : Action S R) (xs m : List ℕ) → ((s : S) (n : List ℕ) → trace f s xs n ≡ retellTrace j (trace g s xs n))
+      → traceOn (mapAction (λ s. s) j a) (λ t n. trace f t xs n) m ≡ retellTrace j (traceOn a (λ s n. trace g s xs n) m)
+  unfolding traceOn oneEvent
+  traceOn-retells (advance s) xs m e = e s m
+  traceOn-retells (store s i x) xs m e = e s (set m i x)
+  traceOn-retells (emit r s) xs m e = ap (oneEvent (j r) m) (e s m)
+
+  pub trace-retells : (xs : List ℕ) (s : S) (m : List ℕ) → trace f s xs m ≡ retellTrace j (trace g s xs m)
+  unfolding trace noEvent
+  trace-retells [] s m = refl
+  trace-retells (x ∷ xs) s m =
+      ap (λ (a : Action S Q). traceOn a (λ t n. trace f t xs n) m) (commutes s x) ∙ traceOn-retells (g s x) xs m (λ t n. trace-retells xs t n)
 
 -- ---- two callers whose states are related by a function, and whose calls keep it so
 module _ {S T R : Type 0} (h : S → T) where

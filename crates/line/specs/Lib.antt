@@ -2,3 +2,4 @@ pub mod Scan
 pub mod Trace
 pub mod Gather
 pub mod Simulation
+pub mod Texts

@@ -1,7 +1,8 @@
 -- The states of one reader taken to those of another, and its reports to others. Cited by the simulation laws. Assumes nothing.
+use mathlib.Core.List.{map}
 use mathlib.Core.Option.{Option, none, some}
 use Rattle.line.specs.Scan.{Action, advance, store, emit, Scan}
-use Rattle.line.specs.Trace.{Trace}
+use Rattle.line.specs.Trace.{Event, Trace}
 
 abbrev pub mapOption : {R Q : Type 0} → (R → Q) → Option R → Option Q
 mapOption j none = none
@@ -26,3 +27,10 @@ module _ {S T R : Type 0} (h : S → T) where
 
   abbrev pub placeTrace : Trace S R → Trace T R
   placeTrace a = record { events = a .events; state = h (a .state); buffer = a .buffer }
+
+-- reports alone
+abbrev pub retellEvent : {R Q : Type 0} → (R → Q) → Event R → Event Q
+retellEvent j e = record { report = j (e .report); buffer = e .buffer }
+
+abbrev pub retellTrace : {S R Q : Type 0} → (R → Q) → Trace S R → Trace S Q
+retellTrace j a = record { events = map (retellEvent j) (a .events); state = a .state; buffer = a .buffer }

@@ -28,26 +28,41 @@ use Rattle.qaft.specs.Limits.{maxData, minSegment, maxSegment}
 use Rattle.qaft_report.specs.Answer.{reportLength}
 use Rattle.qaft_rules.specs.Rules.{verdict, rules, framed}
 use Rattle.qaft_report.specs.declared.Report.{Report}
-use Rattle.qaft_report.specs.declared.Report.the-variants.{Frame}
+use Rattle.qaft_report.specs.declared.Report.the-variants.{Frame, Aborted, Long, Short, BadCheck}
 
--- what holds of a frame within the limit, and of every report that shows no data, holds of a verdict
-verdict-ind : (P : Report → Type 0) (d b : Bool) (n s : ℕ) → ((p : Report) → reportLength p ≡ 0 → P p) → (n ≤ maxSegment → P (Frame (n - 1))) → P (verdict d b n s)
+-- a report that is no frame shows no data
+abbrev pub NoFrame : Report → Type 0
+NoFrame (Frame n) = ⊥
+NoFrame Aborted = Unit
+NoFrame Long = Unit
+NoFrame Short = Unit
+NoFrame BadCheck = Unit
+
+no-frame : (p : Report) → NoFrame p → reportLength p ≡ 0
+no-frame (Frame n) h = absurd h
+no-frame Aborted h = refl
+no-frame Long h = refl
+no-frame Short h = refl
+no-frame BadCheck h = refl
+
+-- what holds of a frame within the limits, and of every report that is none, holds of a verdict
+pub verdict-ind : (P : Report → Type 0) (d b : Bool) (n s : ℕ) → ((p : Report) → NoFrame p → P p) → (minSegment ≤ n → n ≤ maxSegment → P (Frame (n - 1))) → P (verdict d b n s)
 unfolding verdict
 verdict-ind P d b n s bare frame =
-    either P d (λ _. bare _ refl)
-    (λ _. either P (ltb maxSegment n) (λ _. bare _ refl)
-    (λ e. either P (ltb n minSegment) (λ _. bare _ refl)
-    (λ _. either P (eqb s 0) (λ _. frame (ltb-false maxSegment n e)) (λ _. bare _ refl))))
+    either P d (λ _. bare Aborted tt)
+    (λ _. either P (ltb maxSegment n) (λ _. bare Long tt)
+    (λ e. either P (ltb n minSegment) (λ _. bare Short tt)
+    (λ k. either P (eqb s 0) (λ _. frame (ltb-false n minSegment k) (ltb-false maxSegment n e)) (λ _. bare BadCheck tt))))
 
 -- a report shows only octets that are stored
 pub verdict-shows : (d b : Bool) (n s : ℕ) → let p = verdict d b n s in 0 < reportLength p → (0 + reportLength p ≤ n) × (n ≤ maxSegment)
 verdict-shows d b n s =
     verdict-ind (λ (p : Report). 0 < reportLength p → (0 + reportLength p ≤ n) × (n ≤ maxSegment)) d b n s
-    (λ p e h. absurd (omega (arith, e, h))) (λ k h. (omega arith, k))
+    (λ p e h. absurd (omega (arith, no-frame p e, h))) (λ _ k h. (omega arith, k))
 
 -- and at most 2,560 of them
 pub verdict-fits : (d b : Bool) (n s : ℕ) → reportLength (verdict d b n s) ≤ maxData
-verdict-fits d b n s = verdict-ind (λ (p : Report). reportLength p ≤ maxData) d b n s (λ p e. omega (arith, e)) (λ k. omega arith)
+verdict-fits d b n s = verdict-ind (λ (p : Report). reportLength p ≤ maxData) d b n s (λ p e. omega (arith, no-frame p e)) (λ _ k. omega arith)
 
 module _ (level : ℕ) where
   pub lawful : Lawful (rules level)

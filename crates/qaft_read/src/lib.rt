@@ -6,6 +6,7 @@ ghost use mathlib.Core.Bool.{not};
 ghost use Prim.Native.Nat.{_<_, _≤_};
 ghost use lib.ListN.{length};
 ghost use Rattle.qaft.specs.Limits.{maxSegment};
+ghost use Rattle.qaft_rules.specs.Rules.{verdict};
 ghost use Rattle.qaft_read.specs.State.{fresh, opened, malformed};
 ghost use Rattle.qaft_read.specs.Scanned.{rule, stateOf, readerAt, verdictOf};
 ghost use Rattle.qaft_read.specs.Read.{scanCall, read};
@@ -165,7 +166,7 @@ impl Reader {
 }
 
 // How the deframer is to read: flag and escape alone have a meaning, at both levels.
-fn rule() -> Rule
+pub fn rule() -> Rule
     ensures { λ r. ⌜ r ≡ rule ⌝ }
 {
     Rule {
@@ -177,25 +178,32 @@ fn rule() -> Rule
     }
 }
 
-// The verdict on the segment in which a call ended; first that applies.
+// The verdict on the segment in which a call ended.
 fn judge(closed: bool, s: State) -> Verdict
     ensures { λ r. ⌜ r ≡ verdictOf closed s ⌝ }
 {
     if closed {
-        if s.pending {
-            return Verdict::Closed(Report::Aborted);
-        }
-        let n = s.count;
-        if qaft::MAX_SEGMENT < n {
-            return Verdict::Closed(Report::Long);
-        }
-        if n < qaft::MIN_SEGMENT {
-            return Verdict::Closed(Report::Short);
-        }
-        if s.check != 0 {
-            return Verdict::Closed(Report::BadCheck);
-        }
-        return Verdict::Closed(Report::Frame(n - 1));
+        return Verdict::Closed(report_on(s));
     }
     Verdict::Open
+}
+
+// What a closed segment is reported as, by the state in which the flag found it; first that applies.
+pub fn report_on(s: State) -> Report
+    ensures { λ r. ⌜ r ≡ verdict (s .pending) (s .bad) (s .count) (s .check) ⌝ }
+{
+    if s.pending {
+        return Report::Aborted;
+    }
+    let n = s.count;
+    if qaft::MAX_SEGMENT < n {
+        return Report::Long;
+    }
+    if n < qaft::MIN_SEGMENT {
+        return Report::Short;
+    }
+    if s.check != 0 {
+        return Report::BadCheck;
+    }
+    Report::Frame(n - 1)
 }
