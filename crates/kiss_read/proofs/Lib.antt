@@ -1,0 +1,3 @@
+pub mod SharedRule
+pub mod Scanning
+pub mod Refusals
