@@ -1,0 +1,4 @@
+pub mod Gists
+pub mod Texts
+pub mod Frames
+pub mod Theorems

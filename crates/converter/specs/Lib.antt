@@ -1,0 +1,2 @@
+pub mod Gist
+pub mod Convert
