@@ -1,4 +1,5 @@
 pub mod Gists
 pub mod Texts
 pub mod Frames
+pub mod Calls
 pub mod Theorems

@@ -5,18 +5,20 @@ use mathlib.Core.List.{List, [], _∷_, map, flatten}
 use mathlib.Core.Path.{_≡_, refl, sym, ap, _∙_, subst}
 use native.Mathlib.Omega.{arith}
 use lib.ListN.{length}
+use Rattle.conversion_laws.proofs.Calls.{cap-is, texts-short, chunks-is}
 use Rattle.conversion_laws.proofs.Frames.{frames-writable, kiss-line-reports, qaft-line-reports, kiss-line-frames, qaft-line-frames}
 use Rattle.conversion_laws.proofs.Gists.{reports-told, frames-told, counts-told}
 use Rattle.conversion_laws.proofs.Texts.{shows, text-line, texts-frames, Counted, tally-counts}
+use Rattle.conversion_laws.specs.Caller.{Written, convertChunks}
 use Rattle.conversion_laws.specs.Frames.{Counts, countBefore, countsOf, framesOf, qaftFrames, kissFrames, qaftCounts, kissCounts, sourceFrames, sourceCounts, targetLine, conversionOf}
-use Rattle.converter.proofs.Rules.{lawful, qaft-length, kiss-length, Within, verdict-within}
-use Rattle.converter.proofs.Writing.{text-fits}
-use Rattle.converter.specs.Convert.{freshTally, counted, reportText}
+use Rattle.converter.proofs.Rules.{lawful, qaft-length, kiss-length}
+use Rattle.converter.specs.Convert.{freshTally, counted, freshConverter, reportText}
+use Rattle.converter.specs.declared.Converter.{Converter}
 use Rattle.converter.specs.Gist.{gistOfQaft, gistOfKiss, sourceRules}
 use Rattle.converter.specs.declared.Gist.{Gist}
 use Rattle.converter.specs.declared.Gist.the-variants.{Frame, Skipped, Other}
 use Rattle.converter.specs.declared.Tally.{Tally}
-use Rattle.framing.proofs.Emitted.{step-report}
+use Rattle.deframer.specs.Scan.{place}
 use Rattle.framing.proofs.Formed.{Fit, fresh-formed, step-keeps}
 use Rattle.framing.proofs.Meaning.{trace-reports}
 use Rattle.framing.specs.Reports.{Reported, reportsOf}
@@ -27,11 +29,11 @@ use Rattle.kiss_laws.proofs.Rules as kissLaws
 use Rattle.kiss_rules.specs.Rules as kissRules
 use Rattle.line.proofs.Texts.{Makes, chunks-make}
 use Rattle.line.proofs.Trace.{trace-events}
-use Rattle.line.specs.Scan.{emit}
-use Rattle.line.specs.Texts.{Written, textChunks}
+use Rattle.line.specs.Texts.{textsOf, tallyOf, textChunks}
+use Rattle.line.specs.Texts as texting
 use Rattle.line.specs.Trace.{Event, trace}
 use Rattle.qaft.specs.Frame.{Writable}
-use Rattle.qaft.specs.Limits.{maxSegment, maxFrame}
+use Rattle.qaft.specs.Limits.{maxLevel, maxSegment, maxFrame}
 use Rattle.qaft_laws.proofs.Rules as qaftLaws
 use Rattle.qaft_rules.specs.Rules as qaftRules
 
@@ -56,44 +58,71 @@ source-writable : (toKiss : Bool) (level : ℕ) (l : List ℕ) → Writable (sou
 source-writable toKiss level l = subst Writable (gists-frames toKiss level l) (frames-writable toKiss level l)
 
 -- ---- a caller of the converter
--- a report's text is no longer than the longest frame
-texts-short : (toKiss : Bool) (level : ℕ) (t : Tally) (s : State ℕ) (x : ℕ) (g : Gist) (u : State ℕ) (m : List ℕ) → step (sourceRules toKiss level) s x ≡ emit g u → length (reportText toKiss level t g m) ≤ maxFrame
-texts-short toKiss level t s x g u m e = text-fits toKiss level (t .«at_flag») g m (step-report (sourceRules toKiss level) Within (verdict-within toKiss level) s x g u e .0)
+-- the texts and the tally of all reports of a capture, whatever the reader's buffer m holds
+module _ (toKiss : Bool) (level : ℕ) (m : List ℕ) (segment : maxSegment ≤ length m) (l : List ℕ) where
+  abbrev reports : List (Event Gist)
+  reports = trace (step (sourceRules toKiss level)) (fresh (sourceRules toKiss level)) l m .events
 
-module _ (toKiss : Bool) (level : ℕ) (m out : List ℕ) (segment : sourceRules toKiss level .cap ≤ length m) (room : maxFrame ≤ length out) (xss : List (List ℕ)) where
-  abbrev written : Written (State ℕ) Tally
-  written = textChunks (reportText toKiss level) counted maxFrame (step (sourceRules toKiss level)) (fresh (sourceRules toKiss level)) freshTally xss m out
+  shown-is : shows toKiss level reports ≡ reportsOf (sourceRules toKiss level) l
+  shown-is = trace-reports (sourceRules toKiss level) (lawful toKiss level) l m (omega (arith, cap-is toKiss level))
 
-  abbrev events : List (Event Gist)
-  events = trace (step (sourceRules toKiss level)) (fresh (sourceRules toKiss level)) (flatten xss) m .events
+  pub texts-of-the-capture : textsOf (reportText toKiss level) counted freshTally reports ≡ conversionOf toKiss level l
+  texts-of-the-capture =
+      texts-frames toKiss level reports freshTally
+      ∙ text-line toKiss level (framesOf (λ g. g) (shows toKiss level reports))
+      ∙ ap (targetLine toKiss level) (ap (framesOf (λ g. g)) shown-is ∙ gists-frames toKiss level l)
+
+  pub tally-of-the-capture : length l < 2 ^ 64
+      → let t = tallyOf (reportText toKiss level) counted freshTally reports in
+      let c = sourceCounts toKiss level l in
+      (t .frames ≡ c .frames) × (t .skipped ≡ c .skipped) × (t .others ≡ c .others)
+  tally-of-the-capture few =
+      let k = tally-counts toKiss level reports freshTally (omega (arith, trace-events (step (sourceRules toKiss level)) l (fresh (sourceRules toKiss level)) m)) in
+      let r = subst (Counted toKiss level (tallyOf (reportText toKiss level) counted freshTally reports) freshTally) (ap (countsOf (λ g. g)) shown-is ∙ gists-counts toKiss level l) k in
+      (omega (arith, r .0), omega (arith, r .1), omega (arith, r .2))
+
+fresh-is : (toKiss : Bool) (level : ℕ) → freshConverter toKiss level ≡ record { «to_kiss» = toKiss; level = level; state = place (fresh (sourceRules toKiss level)); tally = freshTally }
+fresh-is true level = refl
+fresh-is false level = refl
+
+-- with a level of 0 or 1, a reader's buffer of 2,561 octets or more, and an out buffer with room for every frame, whatever they hold
+module _ (toKiss : Bool) (level : ℕ) (h : level ≤ maxLevel) (m out : List ℕ) (segment : maxSegment ≤ length m) (room : maxFrame ≤ length out) (xss : List (List ℕ)) where
+  abbrev texts : texting.Written (State ℕ) Tally
+  texts = textChunks (reportText toKiss level) counted maxFrame (step (sourceRules toKiss level)) (fresh (sourceRules toKiss level)) freshTally xss m out
+
+  abbrev pub written : Written
+  written = convertChunks (freshConverter toKiss level) xss m out
+
+  capped : sourceRules toKiss level .cap ≤ length m
+  capped = omega (arith, cap-is toKiss level)
+
+  fit : Fit (sourceRules toKiss level) (fresh (sourceRules toKiss level)) m
+  fit = record { room = capped; formed = fresh-formed (sourceRules toKiss level) (lawful toKiss level) }
+
+  written-is : written ≡ record { text = texts .text; converter = record { «to_kiss» = toKiss; level = level; state = place (texts .state); tally = texts .tally }; buffer = texts .buffer; out = texts .out }
+  written-is =
+      ap (λ (c : Converter). convertChunks c xss m out) (fresh-is toKiss level)
+      ∙ chunks-is toKiss level h xss (fresh (sourceRules toKiss level)) freshTally m out fit room
 
   makes : Makes (reportText toKiss level) counted maxFrame (step (sourceRules toKiss level)) (Fit (sourceRules toKiss level)) (step-keeps (sourceRules toKiss level) (lawful toKiss level)) (texts-short toKiss level)
-      (fresh (sourceRules toKiss level)) freshTally (flatten xss) m out written
+      (fresh (sourceRules toKiss level)) freshTally (flatten xss) m out texts
   makes =
       chunks-make (reportText toKiss level) counted maxFrame (step (sourceRules toKiss level)) (Fit (sourceRules toKiss level)) (step-keeps (sourceRules toKiss level) (lawful toKiss level)) (texts-short toKiss level)
-      xss (fresh (sourceRules toKiss level)) freshTally m out (record { room = segment; formed = fresh-formed (sourceRules toKiss level) (lawful toKiss level) }) room
-
-  shown-is : shows toKiss level events ≡ reportsOf (sourceRules toKiss level) (flatten xss)
-  shown-is = trace-reports (sourceRules toKiss level) (lawful toKiss level) (flatten xss) m segment
+      xss (fresh (sourceRules toKiss level)) freshTally m out fit room
 
   -- 1. However a capture is cut into chunks, what a caller of the converter writes out, call after call, is the line of the capture's frames, in order.
   pub converts-the-capture : written .text ≡ conversionOf toKiss level (flatten xss)
-  converts-the-capture =
-      makes .text-is
-      ∙ texts-frames toKiss level events freshTally
-      ∙ text-line toKiss level (framesOf (λ g. g) (shows toKiss level events))
-      ∙ ap (targetLine toKiss level) (ap (framesOf (λ g. g)) shown-is ∙ gists-frames toKiss level (flatten xss))
+  converts-the-capture = ap (λ (w : Written). w .text) written-is ∙ makes .text-is ∙ texts-of-the-capture toKiss level m segment (flatten xss)
 
   -- 2. The tally then has the numbers of frames, of 63s and of other reports of the capture, of fewer than 2^64 octets.
   pub counts-the-reports : length (flatten xss) < 2 ^ 64
-      → let c = sourceCounts toKiss level (flatten xss) in (written .tally .frames ≡ c .frames) × (written .tally .skipped ≡ c .skipped) × (written .tally .others ≡ c .others)
+      → let t = written .converter .tally in
+      let c = sourceCounts toKiss level (flatten xss) in
+      (t .frames ≡ c .frames) × (t .skipped ≡ c .skipped) × (t .others ≡ c .others)
   counts-the-reports few =
-      let k = tally-counts toKiss level events freshTally (omega (arith, trace-events (step (sourceRules toKiss level)) (flatten xss) (fresh (sourceRules toKiss level)) m)) in
-      let c = ap (countsOf (λ g. g)) shown-is ∙ gists-counts toKiss level (flatten xss) in
-      let f : (t : Tally) → t ≡ written .tally → Counted toKiss level t freshTally (countsOf (λ g. g) (shows toKiss level events)) → Counted toKiss level (written .tally) freshTally (sourceCounts toKiss level (flatten xss)) =
-      λ t e h. subst (λ (c : Counts). Counted toKiss level (written .tally) freshTally c) c (subst (λ (t : Tally). Counted toKiss level t freshTally (countsOf (λ g. g) (shows toKiss level events))) e h) in
-      let r = f _ (sym (makes .tally-is)) k in
-      (omega (arith, r .0), omega (arith, r .1), omega (arith, r .2))
+      let e = ap (λ (w : Written). w .converter .tally) written-is ∙ makes .tally-is in
+      let r = tally-of-the-capture toKiss level m segment (flatten xss) few in
+      (ap (λ (t : Tally). t .frames) e ∙ r .0, ap (λ (t : Tally). t .skipped) e ∙ r .1, ap (λ (t : Tally). t .others) e ∙ r .2)
 
 -- 3. What is written reports exactly the capture's frames, and nothing else, in order.
 pub to-kiss-reports-the-frames : (level : ℕ) (l : List ℕ) → reportsOf kissRules.rules (conversionOf true level l) ≡ map kissRules.framed (qaftFrames level l)

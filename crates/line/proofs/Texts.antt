@@ -60,10 +60,10 @@ module _ {S R X : Type 0} (text : X → R → List ℕ → List ℕ) (tallied : 
 
   module _ (most : ℕ) where
     -- what is good, and texts within an out buffer of that length
-    record Within (s : S) (m : List ℕ) (c : Texts X) : Type 0 where
-      good : Good s m
-      long : length (c .out) ≡ most
-      within : c .behind ≤ most
+    pub record Within (s : S) (m : List ℕ) (c : Texts X) : Type 0 where
+      pub good : Good s m
+      pub long : length (c .out) ≡ most
+      pub within : c .behind ≤ most
 
     -- one more text is within it, where there was room for every text
     text-within : (t : S) (m : List ℕ) (c : Texts X) (r : R) (s : S) (x : ℕ) → hasRoom longest c ≡ true → f s x ≡ emit r t → Good t m → length (c .out) ≡ most → Within t m (make c r m)
@@ -98,7 +98,7 @@ module _ {S R X : Type 0} (text : X → R → List ℕ → List ℕ) (tallied : 
     call-partly : Partly make (hasRoom longest) f s xs m start call
     call-partly = gather-partly make (hasRoom longest) f xs s m start
 
-    call-within : Within (length out) (call .state) (call .buffer) (call .made)
+    pub call-within : Within (length out) (call .state) (call .buffer) (call .made)
     call-within = gather-within (length out) xs s m start has-room (record { good = good; long = refl; within = omega arith })
 
     call-tally : call .made .tally ≡ tallyOf text tallied k (call-partly .first)
@@ -112,6 +112,27 @@ module _ {S R X : Type 0} (text : X → R → List ℕ → List ℕ) (tallied : 
         let t = textsOf text tallied k es in
         let b : call .made .behind ≡ 0 + length t = ap (λ (c : Texts X). c .behind) e in
         ap (λ (c : Texts X). take (c .behind) (c .out)) e ∙ front-text t out (omega (arith, b, call-within .within))
+
+    -- a call and then the rest of the chunk: texts and tally of the whole chunk
+    pub call-then-rest : textsOf text tallied k (trace f s xs m .events)
+        ≡ take (call .made .behind) (call .made .out) ++ textsOf text tallied (call .made .tally) (trace f (call .state) (drop (call .taken) xs) (call .buffer) .events)
+    call-then-rest =
+        let es = call-partly .first in
+        let fs = trace f (call .state) (drop (call .taken) xs) (call .buffer) .events in
+        ap (λ (a : Trace S R). textsOf text tallied k (a .events)) (call-partly .whole)
+        ∙ textsOf-++ text tallied k es fs
+        ∙ ap₂ (λ (t : List ℕ) (j : X). t ++ textsOf text tallied j fs) (sym call-text) (sym call-tally)
+
+    pub tally-then-rest : tallyOf text tallied k (trace f s xs m .events) ≡ tallyOf text tallied (call .made .tally) (trace f (call .state) (drop (call .taken) xs) (call .buffer) .events)
+    tally-then-rest =
+        let es = call-partly .first in
+        let fs = trace f (call .state) (drop (call .taken) xs) (call .buffer) .events in
+        ap (λ (a : Trace S R). tallyOf text tallied k (a .events)) (call-partly .whole)
+        ∙ tallyOf-++ text tallied k es fs
+        ∙ ap (λ (j : X). tallyOf text tallied j fs) (sym call-tally)
+
+    pub call-takes : call .taken ≤ length xs
+    call-takes = call-partly .within
 
   -- ---- what was written of the octets xs: the texts of their reports; state, tally and buffer are those after them
   pub record Makes (s : S) (k : X) (xs m out : List ℕ) (w : Written S X) : Type 0 where
@@ -167,7 +188,7 @@ module _ {S R X : Type 0} (text : X → R → List ℕ → List ℕ) (tallied : 
         (ih (g .state) (g .made .tally) zs (g .buffer) (g .made .out) (w .good) (omega (arith, w .long)) shorter))
 
   -- a chunk, in as many calls as it has octets
-  chunk-makes : (n : ℕ) (s : S) (k : X) (xs m out : List ℕ) → Good s m → longest ≤ length out → length xs ≤ n → Makes s k xs m out (textChunk text tallied longest f n s k xs m out)
+  pub chunk-makes : (n : ℕ) (s : S) (k : X) (xs m out : List ℕ) → Good s m → longest ≤ length out → length xs ≤ n → Makes s k xs m out (textChunk text tallied longest f n s k xs m out)
   unfolding textChunk
   chunk-makes zero s k [] m out good room h = nothing-makes s k m out
   chunk-makes zero s k (x ∷ xs) m out good room h = let z : ⊥ = omega arith in absurd z
