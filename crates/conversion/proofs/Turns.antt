@@ -111,9 +111,6 @@ module _ (c : Converter) (capture m scratch : List ℕ) (i : ℕ) (within : i �
   pub turn-ready : Ready (a .converter) m₁
   turn-ready = turn .ready
 
-  pub turn-long : length s₁ ≡ length scratch
-  turn-long = turn .long
-
   pub turn-few : a .length ≤ length s₁
   turn-few = turn .few
 

@@ -1,25 +1,25 @@
 -- A caller of the converter is a caller that makes texts of reports. Assumes nothing.
 use Prim.Native.Nat.{ℕ, zero, suc, _≤_}
 use mathlib.Core.Bool.{Bool, true, false}
-use mathlib.Core.List.{List, [], _∷_, flatten}
+use mathlib.Core.List.{List, [], _∷_}
 use mathlib.Core.Path.{_≡_, refl, sym, ap, _∙_, subst}
 use native.Mathlib.Omega.{arith}
 use lib.ListN.{length, take, drop}
-use Rattle.conversion_laws.specs.Caller.{Written, nothing, following, convertChunk, convertChunks}
+use Rattle.conversion_laws.specs.Caller.{Written, following, convertChunk, convertChunks}
 use Rattle.converter.proofs.Refusals.{convert-gathered}
 use Rattle.converter.proofs.Rules.{lawful, Within, verdict-within}
 use Rattle.converter.proofs.Writing.{text-fits}
-use Rattle.converter.specs.Convert.{counted, reportText, later, gathered, Call, callOf, convert}
+use Rattle.converter.specs.Convert.{counted, reportText, Call, callOf}
 use Rattle.converter.specs.Gist.{sourceRules}
 use Rattle.converter.specs.declared.Converter.{Converter}
 use Rattle.converter.specs.declared.Gist.{Gist}
 use Rattle.converter.specs.declared.Tally.{Tally}
-use Rattle.deframer.specs.Scan.{view, place}
+use Rattle.deframer.specs.Scan.{place}
 use Rattle.framing.proofs.Emitted.{step-report}
 use Rattle.framing.proofs.Formed.{Fit, step-keeps}
 use Rattle.framing.specs.Rules.{State}
 use Rattle.framing.specs.Step.{step}
-use Rattle.line.proofs.Texts.{call-within, Makes, chunk-makes}
+use Rattle.line.proofs.Texts.{call-within, chunk-makes}
 use Rattle.line.proofs.Chunks.{trace-good}
 use Rattle.line.specs.Scan.{emit}
 use Rattle.line.specs.Texts.{textCall, textChunk, textChunks}

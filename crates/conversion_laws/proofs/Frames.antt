@@ -1,23 +1,22 @@
 -- The frames of a capture have 1 to 2,560 octets each, so that they can be written; written and read again they are the same. Assumes nothing.
 use Prim.Native.Nat.{ℕ, _+_, _≤_, _<_}
-use mathlib.Core.Bool.{Bool, true, false}
+use mathlib.Core.Bool.{Bool}
 use mathlib.Core.List.{List, [], _∷_, _++_, map}
-use mathlib.Core.Path.{_≡_, refl, sym, ap, _∙_}
+use mathlib.Core.Path.{_≡_, refl, ap, _∙_}
 use native.Mathlib.Omega.{arith}
 use borrow.Author.Tests.{le-leb, ltb-false}
 use lib.Dec.{ltb}
-use lib.ListN.{length, take, drop, length-drop}
+use lib.ListN.{length, drop, length-drop}
 use lib.Seq.{length-take-le}
 use Rattle.common.proofs.Bools.{either}
 use Rattle.common.proofs.Each.{Each, each-++}
 use Rattle.conversion_laws.proofs.Texts.{size-is}
 use Rattle.conversion_laws.specs.Frames.{frameBefore, framesOf, kissFrames, qaftFrames}
 use Rattle.converter.proofs.Rules.{Within, lawful, verdict-within}
-use Rattle.converter.specs.Gist.{gistOfQaft, gistOfKiss, gistLength, sourceRules}
+use Rattle.converter.specs.Gist.{gistOfQaft, gistOfKiss, sourceRules}
 use Rattle.converter.specs.declared.Gist.{Gist}
 use Rattle.converter.specs.declared.Gist.the-variants.{Frame, Skipped, Other}
 use Rattle.framing.proofs.Written.{reportsOf-frames}
-use Rattle.framing.specs.Lawful.{Lawful}
 use Rattle.framing.specs.Reports.{Reported, Unescaped, shown, unescape, unskipped, checkOf, judged, reportsOfOctets, reportsOfSegment, reportsOfSegments, reportsOf, segments, afterFlag}
 use Rattle.framing.specs.Step.{capped}
 use Rattle.kiss.specs.Frame as kiss

@@ -3,8 +3,8 @@ use Prim.Native.Nat.{ℕ}
 use mathlib.Core.List.{List, [], _∷_, map}
 use mathlib.Core.Path.{_≡_, refl, sym, ap, ap₂, _∙_}
 use native.Mathlib.Omega.{arith}
-use lib.ListN.{length, replicate, length-replicate}
-use Rattle.conversion_laws.specs.Frames.{Counts, frameBefore, countBefore, framesOf, countsOf}
+use lib.ListN.{replicate, length-replicate}
+use Rattle.conversion_laws.specs.Frames.{frameBefore, countBefore, framesOf, countsOf}
 use Rattle.converter.specs.Gist.{gistLength, gisted}
 use Rattle.converter.specs.declared.Gist.{Gist}
 use Rattle.framing.proofs.Meaning.{trace-reports}
@@ -15,7 +15,7 @@ use Rattle.framing.specs.Rules.{Rules, State}
 use Rattle.framing.specs.Step.{joined, awaiting, storedInto, inSegmentInto, closedInto, stepInto, step, fresh}
 use Rattle.line.proofs.Simulation.{trace-retells}
 use Rattle.line.specs.Scan.{advance, store, emit}
-use Rattle.line.specs.Simulation.{mapAction, retellEvent, retellTrace}
+use Rattle.line.specs.Simulation.{mapAction, retellEvent}
 use Rattle.line.specs.Trace.{Event, Trace, trace}
 
 module _ {R : Type 0} (rules : Rules ℕ R) (gist : R → Gist) (i : ℕ) (law : Lawful rules) (gist-law : Lawful (gisted rules gist i))

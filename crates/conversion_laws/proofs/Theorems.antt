@@ -2,7 +2,7 @@
 use Prim.Native.Nat.{ℕ, suc, _+_, _^_, _≤_, _<_}
 use mathlib.Core.Bool.{Bool, true, false}
 use mathlib.Core.List.{List, [], _∷_, map, flatten}
-use mathlib.Core.Path.{_≡_, refl, sym, ap, _∙_, subst}
+use mathlib.Core.Path.{_≡_, refl, ap, _∙_, subst}
 use native.Mathlib.Omega.{arith}
 use lib.ListN.{length}
 use Rattle.conversion_laws.proofs.Calls.{cap-is, texts-short, chunks-is}
@@ -10,7 +10,7 @@ use Rattle.conversion_laws.proofs.Frames.{frames-writable, kiss-line-re
 use Rattle.conversion_laws.proofs.Gists.{reports-told, frames-told, counts-told}
 use Rattle.conversion_laws.proofs.Texts.{shows, text-line, texts-frames, Counted, tally-counts}
 use Rattle.conversion_laws.specs.Caller.{Written, convertChunks}
-use Rattle.conversion_laws.specs.Frames.{Counts, countBefore, countsOf, framesOf, qaftFrames, kissFrames, qaftCounts, kissCounts, sourceFrames, sourceCounts, targetLine, conversionOf}
+use Rattle.conversion_laws.specs.Frames.{countBefore, countsOf, framesOf, qaftFrames, kissFrames, qaftCounts, kissCounts, sourceFrames, sourceCounts, targetLine, conversionOf}
 use Rattle.converter.proofs.Rules.{lawful, qaft-length, kiss-length}
 use Rattle.converter.specs.Convert.{freshTally, counted, freshConverter, reportText}
 use Rattle.converter.specs.declared.Converter.{Converter}

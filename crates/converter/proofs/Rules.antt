@@ -1,7 +1,7 @@
 -- The rules by which a capture is read obey what framing asks, and are those of the rule that is handed to the shared loop. Assumes nothing.
-use Prim.Native.Nat.{ℕ, _+_, _-_, _≤_, _<_}
-use mathlib.Core.Bool.{Bool, true, false, cond}
-use mathlib.Core.Path.{_≡_, refl, sym, ap, _∙_}
+use Prim.Native.Nat.{ℕ, _-_, _≤_}
+use mathlib.Core.Bool.{Bool, true, false}
+use mathlib.Core.Path.{_≡_, refl, _∙_}
 use native.Mathlib.Omega.{arith}
 use Rattle.converter.specs.Gist.{gistOfQaft, gistOfKiss, gistLength, gisted, sourceRules, ruleOf}
 use Rattle.converter.specs.declared.Gist.{Gist}

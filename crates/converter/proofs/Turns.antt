@@ -19,7 +19,7 @@ use Rattle.converter.specs.declared.Converter.{Converter}
 use Rattle.converter.specs.declared.Gist.{Gist}
 use Rattle.converter.specs.declared.Gist.the-variants.{Frame, Skipped, Other}
 use Rattle.converter.specs.declared.Tally.{Tally}
-use Rattle.deframer.proofs.Judged.{judged, scan-judged}
+use Rattle.deframer.proofs.Judged.{scan-judged}
 use Rattle.deframer.specs.Scan.{view, scanned}
 use Rattle.deframer.specs.declared.Scanned.{Scanned}
 use Rattle.deframer.specs.declared.State as declared

@@ -1,6 +1,5 @@
 -- KISS: the rule that the reader hands to the shared loop, its state there, and the verdict on what comes back. Cited by the contracts of the reader's
 -- functions; that the rule's meaning is KISS's rules is a law (proofs/SharedRule). Assumes nothing.
-use Prim.Native.Nat.{ℕ}
 use mathlib.Core.Bool.{Bool, true, cond}
 use Rattle.deframer.specs.Rule.{firstCheck}
 use Rattle.deframer.specs.declared.Rule.{Rule}

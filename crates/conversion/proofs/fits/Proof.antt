@@ -7,7 +7,7 @@ use borrow.Author.Needs.{needs}
 use borrow.Author.Tests.{le-leb}
 use lib.Dec.{leb}
 use lib.ListN.{length, drop}
-use Rattle.conversion.proofs.Turns.{restText, Ready, fresh-ready, fresh-text, none-left, turn-ready, turn-long, turn-within, turn-takes, fits-no, fits-on}
+use Rattle.conversion.proofs.Turns.{restText, Ready, fresh-ready, fresh-text, none-left, turn-ready, turn-within, turn-takes, fits-no, fits-on}
 use Rattle.conversion.proofs.fits.Statement.{statement}
 use Rattle.conversion.proofs.fits.Tie as tie
 use Rattle.conversion_laws.specs.Frames.{conversionOf}
