@@ -1,8 +1,9 @@
-//! The second program: QAFT and AFP written from the papers alone, apart from the proved code, so that comparing the two
+//! The second program: QAFT, KISS and AFP written from the papers alone, apart from the proved code, so that comparing the two
 //! says something. It is written for plainness: whole lines, whole segments, vectors, no streaming.
 #![forbid(unsafe_code)]
 
 pub mod afp;
+pub mod kiss;
 pub mod link;
 pub mod listing;
 pub mod qaft;
