@@ -1,7 +1,6 @@
 -- Between the reader's state and its numbers: numbers of a state say that state, and a call in plain numbers goes on where the reader's does.
 -- Assumes nothing.
 use Prim.Native.Nat.{ℕ}
-use mathlib.Core.Bool.{Bool, true, false}
 use mathlib.Core.List.{List}
 use mathlib.Core.Option.{Option, none, some}
 use mathlib.Core.Path.{_≡_, refl, ap, _∙_}
@@ -13,13 +12,10 @@ use Rattle.line.specs.Scan.{scan}
 use Rattle.qaft_read.proofs.Refusals.{read-ind}
 use Rattle.qaft_read.specs.declared.Answer.{Answer}
 use Rattle.qaft_read.specs.declared.Reader.{Reader}
-use Rattle.qaft_plain.specs.Plain.{truth, bit, readerOf, plainOf, later, answerOf}
+use Rattle.qaft_plain.specs.Plain.{readerOf, plainOf, later, answerOf}
 use Rattle.qaft_plain.specs.declared.PlainReader.{PlainReader}
 use Rattle.qaft_plain.specs.declared.PlainAnswer.{PlainAnswer}
-
-pub truth-bit : (b : Bool) → truth (bit b) ≡ b
-truth-bit true = refl
-truth-bit false = refl
+use Rattle.truths.proofs.Truths.{truth-bit}
 
 -- the numbers of a state say that state
 pub reader-plain : (r : Reader) → readerOf (plainOf r) ≡ r

@@ -4,9 +4,7 @@
 --   answerOf c a              the answer a to a call with the state c, in plain numbers
 --   plainScan c xs m          a call as the generic caller of the crate line sees it
 use Prim.Native.Nat.{ℕ}
-use mathlib.Core.Bool.{Bool, true, false, not}
 use mathlib.Core.List.{List}
-use lib.Dec.{eqb}
 use Rattle.line.specs.Scan.{Scan}
 use Rattle.qaft_report.specs.Answer.{number, dataLength}
 use Rattle.qaft_report.specs.declared.Outcome.{Outcome}
@@ -17,15 +15,9 @@ use Rattle.qaft_read.specs.declared.Answer.{Answer}
 use Rattle.qaft_read.specs.declared.Reader.{Reader}
 use Rattle.qaft_plain.specs.declared.PlainReader.{PlainReader}
 use Rattle.qaft_plain.specs.declared.PlainAnswer.{PlainAnswer}
+use Rattle.truths.specs.Truths.{truth, bit}
 
 -- any number but 0 stands for true, and true is given back as 1
-abbrev pub truth : ℕ → Bool
-truth n = not (eqb n 0)
-
-abbrev pub bit : Bool → ℕ
-bit true = 1
-bit false = 0
-
 abbrev pub readerOf : PlainReader → Reader
 readerOf c = record { level = c .level; synced = truth (c .synced); pending = truth (c .pending); count = c .count; sum = c .sum }
 

@@ -3,7 +3,7 @@
 ghost use mathlib.Core.Path.{_≡_};
 ghost use Rattle.qaft_read.specs.State.{fresh};
 ghost use Rattle.qaft_read.specs.Read.{read};
-ghost use Rattle.qaft_plain.specs.Plain.{truth, bit, readerOf, plainOf, later, answerOf};
+ghost use Rattle.qaft_plain.specs.Plain.{readerOf, plainOf, later, answerOf};
 use qaft_read::Reader;
 use qaft_report::Outcome;
 
@@ -55,8 +55,8 @@ impl PlainReader {
     {
         Reader {
             level: self.level,
-            synced: truth(self.synced),
-            pending: truth(self.pending),
+            synced: truths::truth(self.synced),
+            pending: truths::truth(self.pending),
             count: self.count,
             sum: self.sum,
         }
@@ -75,32 +75,13 @@ impl PlainReader {
     }
 }
 
-// Any number but 0 stands for true.
-fn truth(n: u8) -> bool
-    ensures { λ r. ⌜ r ≡ truth n ⌝ }
-{
-    if n == 0 {
-        return false;
-    }
-    true
-}
-
-fn bit(b: bool) -> u8
-    ensures { λ r. ⌜ r ≡ bit b ⌝ }
-{
-    if b {
-        return 1;
-    }
-    0
-}
-
 fn plain(r: Reader) -> PlainReader
     ensures { λ c. ⌜ c ≡ plainOf r ⌝ }
 {
     PlainReader {
         level: r.level,
-        synced: bit(r.synced),
-        pending: bit(r.pending),
+        synced: truths::bit(r.synced),
+        pending: truths::bit(r.pending),
         count: r.count,
         sum: r.sum,
     }

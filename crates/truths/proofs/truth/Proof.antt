@@ -3,8 +3,8 @@ use mathlib.Core.Bool.{not}
 use mathlib.Core.Path.{ap, sym}
 use native.Mathlib.Omega.{arith}
 use borrow.Author.Tests.{eq-eqb, ne-eqb}
-use Rattle.qaft_plain.proofs.truth.Statement.{statement}
-use Rattle.qaft_plain.proofs.truth.Tie as tie
+use Rattle.truths.proofs.truth.Statement.{statement}
+use Rattle.truths.proofs.truth.Tie as tie
 
 returns : tie.Need-returns
 returns c = sym (ap not (eq-eqb (c .before .args .n) 0 (omega (arith, c .if1 .taken))))
