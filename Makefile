@@ -1,6 +1,6 @@
 # The library for C programs: make, make install [PREFIX=..] [DESTDIR=..], make uninstall, make check (the gate).
 # The archive is built, and so proved, where a file of the crates is newer than it; that needs the Rattle toolchain (rt).
-VERSION = 0.2.0
+VERSION = 0.3.0
 PREFIX = /usr/local
 INCLUDEDIR = $(PREFIX)/include
 LIBDIR = $(PREFIX)/lib

@@ -27,6 +27,26 @@ FIELD(hasfandur_qaft_answer, taken, 8, 8);
 FIELD(hasfandur_qaft_answer, length, 16, 8);
 FIELD(hasfandur_qaft_answer, reader, 24, 24);
 
+static_assert(sizeof(hasfandur_kiss_reader) == 24, "hasfandur_kiss_reader");
+FIELD(hasfandur_kiss_reader, synced, 0, 1);
+FIELD(hasfandur_kiss_reader, pending, 1, 1);
+FIELD(hasfandur_kiss_reader, count, 8, 8);
+FIELD(hasfandur_kiss_reader, type_octet, 16, 1);
+FIELD(hasfandur_kiss_reader, bad_escape, 17, 1);
+
+static_assert(sizeof(hasfandur_kiss_answer) == 48, "hasfandur_kiss_answer");
+FIELD(hasfandur_kiss_answer, number, 0, 1);
+FIELD(hasfandur_kiss_answer, taken, 8, 8);
+FIELD(hasfandur_kiss_answer, length, 16, 8);
+FIELD(hasfandur_kiss_answer, reader, 24, 24);
+
+static_assert(sizeof(hasfandur_conversion) == 40, "hasfandur_conversion");
+FIELD(hasfandur_conversion, number, 0, 1);
+FIELD(hasfandur_conversion, length, 8, 8);
+FIELD(hasfandur_conversion, frames, 16, 8);
+FIELD(hasfandur_conversion, skipped, 24, 8);
+FIELD(hasfandur_conversion, others, 32, 8);
+
 static_assert(sizeof(hasfandur_dlc_queued) == 264, "hasfandur_dlc_queued");
 FIELD(hasfandur_dlc_queued, length, 0, 8);
 FIELD(hasfandur_dlc_queued, octets, 8, 256);
@@ -67,6 +87,7 @@ FIELD(hasfandur_reading, payload, 56, 16);
 FIELD(hasfandur_reading, unchecked, 72, 1);
 
 static_assert(HASFANDUR_QAFT_FRAME_SIZE(HASFANDUR_QAFT_MAX_DATA) == HASFANDUR_QAFT_MAX_FRAME, "longest QAFT frame");
+static_assert(HASFANDUR_KISS_FRAME_SIZE(HASFANDUR_QAFT_MAX_DATA) == HASFANDUR_KISS_MAX_FRAME, "longest KISS frame");
 static_assert(HASFANDUR_DLC_PACKET_SIZE(HASFANDUR_DLC_MAX_PAYLOAD) == HASFANDUR_DLC_MAX_PACKET, "longest packet");
 static_assert(HASFANDUR_DLC_SLOTS * HASFANDUR_DLC_MAX_PACKET == HASFANDUR_DLC_REPLY_SIZE, "reply");
 static_assert(HASFANDUR_AFP_FRAME_SIZE(HASFANDUR_AFP_MIN_HEADER - 6, 0, 0) == HASFANDUR_AFP_MIN_FRAME, "shortest AFP frame");

@@ -22,8 +22,8 @@ extern "C" {
 
 /* The version, and the same as one number to compare: 10000 for the first part, 100 for the second. */
 /* begin version: written by include/numbers */
-#define HASFANDUR_VERSION "0.2.0"
-#define HASFANDUR_VERSION_NUMBER 200
+#define HASFANDUR_VERSION "0.3.0"
+#define HASFANDUR_VERSION_NUMBER 300
 /* end version */
 
 /* On calls that give a state or a link back: who drops it goes on with the old one. */
@@ -33,23 +33,24 @@ extern "C" {
 #define HASFANDUR_MUST_USE
 #endif
 
-/* The numbers given back. Where several refusals apply the first is given: QAFT writer 6, 1, 2, 3; QAFT reader 6, 4, 5; link
- * 27, 26, 23, 21, 20, 22, 24; AFP reader 30 upward; AFP writer 33, 35, 36, 38, 34, 40, 41. */
+/* The numbers given back. Where several refusals apply the first is given: QAFT writer 6, 1, 2, 3; QAFT reader 6, 4, 5; KISS
+ * writer 1, 2, 64; KISS reader 4, 5; conversions 6, then 64 to KISS and 3 to QAFT; link 27, 26, 23, 21, 20, 22, 24; AFP reader 30
+ * upward; AFP writer 33, 35, 36, 38, 34, 40, 41. */
 /* begin numbers: written by include/numbers */
 enum hasfandur_number {
     HASFANDUR_DONE = 0, /* done */
-    HASFANDUR_QAFT_NO_DATA = 1, /* QAFT writer: no data */
-    HASFANDUR_QAFT_DATA_TOO_LONG = 2, /* QAFT writer: over 2,560 data octets */
-    HASFANDUR_QAFT_OUT_TOO_SMALL = 3, /* QAFT writer: `out` is shorter than this very frame */
-    HASFANDUR_QAFT_BUFFER_TOO_SMALL = 4, /* QAFT reader: `buffer` is under 2,561 octets */
-    HASFANDUR_QAFT_BAD_STATE = 5, /* QAFT reader: a state that no line leads to */
-    HASFANDUR_QAFT_BAD_LEVEL = 6, /* QAFT writer and reader: level not 0 or 1 */
-    HASFANDUR_QAFT_FRAME = 10, /* QAFT reader's report, no refusal: a frame */
+    HASFANDUR_QAFT_NO_DATA = 1, /* QAFT writer, KISS too: no data */
+    HASFANDUR_QAFT_DATA_TOO_LONG = 2, /* QAFT writer, KISS too: over 2,560 data octets */
+    HASFANDUR_QAFT_OUT_TOO_SMALL = 3, /* QAFT writer and conversion to QAFT: `out` is shorter than this very frame or line */
+    HASFANDUR_QAFT_BUFFER_TOO_SMALL = 4, /* QAFT reader, KISS too: `buffer` is under 2,561 octets */
+    HASFANDUR_QAFT_BAD_STATE = 5, /* QAFT reader, KISS too: a state that no line leads to */
+    HASFANDUR_QAFT_BAD_LEVEL = 6, /* QAFT writer, reader and conversions: level not 0 or 1 */
+    HASFANDUR_QAFT_FRAME = 10, /* QAFT reader's report, KISS too, no refusal: a frame */
     HASFANDUR_QAFT_ABORTED = 11, /* QAFT reader's report, no refusal: a 7D stands before the flag */
     HASFANDUR_QAFT_LONG = 12, /* QAFT reader's report, no refusal: over 2,561 octets */
     HASFANDUR_QAFT_SHORT = 13, /* QAFT reader's report, no refusal: a single octet */
     HASFANDUR_QAFT_BAD_CHECK = 14, /* QAFT reader's report, no refusal: the sum is not 0 */
-    HASFANDUR_QAFT_USED_UP = 15, /* QAFT reader, no refusal: the chunk is used up without a report */
+    HASFANDUR_QAFT_USED_UP = 15, /* QAFT reader, KISS too, no refusal: the chunk is used up without a report */
     HASFANDUR_DLC_NOT_OPEN = 20, /* DLC payload: the link is not open */
     HASFANDUR_DLC_PAYLOAD_TOO_LONG = 21, /* DLC payload: over 256 octets */
     HASFANDUR_DLC_QUEUE_FULL = 22, /* DLC payload: the queue is full */
@@ -69,7 +70,12 @@ enum hasfandur_number {
     HASFANDUR_AFP_BAD_SUPPLEMENTARY = 38, /* AFP reader and writer: supplementary header */
     HASFANDUR_AFP_BAD_HEADER_SUM = 39, /* AFP reader: header sum */
     HASFANDUR_AFP_BAD_DATA = 40, /* AFP reader and writer: over 2,304 data octets */
-    HASFANDUR_AFP_OUT_TOO_SMALL = 41 /* AFP writer: `out` is shorter than this very frame */
+    HASFANDUR_AFP_OUT_TOO_SMALL = 41, /* AFP writer: `out` is shorter than this very frame */
+    HASFANDUR_KISS_BAD_ESCAPE = 60, /* KISS reader's report, no refusal: DB before anything but DC or DD */
+    HASFANDUR_KISS_SHORT = 61, /* KISS reader's report, no refusal: a type octet and no payload */
+    HASFANDUR_KISS_LONG = 62, /* KISS reader's report, no refusal: over 2,561 octets */
+    HASFANDUR_KISS_SKIPPED = 63, /* KISS reader's report, no refusal: a frame of another port or command */
+    HASFANDUR_KISS_OUT_TOO_SMALL = 64 /* KISS writer and conversion to KISS: `out` is shorter than this very frame or line */
 };
 /* end numbers */
 
@@ -78,6 +84,8 @@ enum hasfandur_number {
 #define HASFANDUR_QAFT_MAX_DATA 2560 /* data of a QAFT frame, at least 1 */
 #define HASFANDUR_QAFT_MAX_SEGMENT 2561 /* the QAFT reader's `buffer`, at least: data and check of the longest frame */
 #define HASFANDUR_QAFT_MAX_FRAME 5124 /* an `out` that has room for every QAFT frame */
+#define HASFANDUR_KISS_MAX_SEGMENT 2561 /* the KISS reader's `buffer`, at least: type octet and the longest payload */
+#define HASFANDUR_KISS_MAX_FRAME 5123 /* an `out` that has room for every KISS frame */
 #define HASFANDUR_DLC_MAX_PAYLOAD 256 /* a DLC payload, which may be empty */
 #define HASFANDUR_DLC_MAX_PACKET 257 /* a DLC packet */
 #define HASFANDUR_DLC_SLOTS 7 /* payloads that a link's queue holds */
@@ -89,10 +97,12 @@ enum hasfandur_number {
 #define HASFANDUR_AFP_MAX_DATA 2304 /* data of an AFP frame, which may be none */
 /* end sizes */
 
-/* An `out` of this size has room for the QAFT frame of n data octets, whatever they are; one for a DLC packet in a QAFT frame;
+/* An `out` of this size has room for the QAFT frame of n data octets, whatever they are; one for the KISS frame of n payload octets;
+ * one for a DLC packet in a QAFT frame;
  * the size of the DLC packet of n payload octets; and of the AFP frame of so many octets of stations, supplementary header and
  * data, which is its very length. */
 #define HASFANDUR_QAFT_FRAME_SIZE(n) (2 * ((n) + 1) + 2)
+#define HASFANDUR_KISS_FRAME_SIZE(n) (2 * (n) + 3)
 #define HASFANDUR_QAFT_PACKET_FRAME HASFANDUR_QAFT_FRAME_SIZE(HASFANDUR_DLC_MAX_PACKET)
 #define HASFANDUR_DLC_PACKET_SIZE(n) ((n) + 1)
 #define HASFANDUR_AFP_FRAME_SIZE(stations, supplementary, data) (6 + (stations) + (supplementary) + (data) + 2)
@@ -155,6 +165,72 @@ HASFANDUR_MUST_USE hasfandur_qaft_reader hasfandur_qaft_fresh(uint8_t level);
  */
 HASFANDUR_MUST_USE hasfandur_qaft_answer hasfandur_qaft_read(hasfandur_qaft_reader reader, const uint8_t *chunk,
                                                              size_t chunk_length, uint8_t *buffer, size_t buffer_length);
+
+/*
+ * Writes one KISS data frame of port 0 to the front of `out`: a flag (unless `at_flag` says that the line stands at one), the type
+ * octet 00 and the payload with their escapes, a flag.
+ *
+ * Refusals, the first that applies: HASFANDUR_QAFT_NO_DATA, HASFANDUR_QAFT_DATA_TOO_LONG, HASFANDUR_KISS_OUT_TOO_SMALL (by the
+ * length of this very frame). A refusal writes nothing. Otherwise HASFANDUR_DONE, with the frame's length; octets of `out`
+ * behind the frame are as before.
+ */
+hasfandur_written hasfandur_kiss_write(bool at_flag, const uint8_t *payload, size_t payload_length, uint8_t *out, size_t out_length);
+
+/*
+ * The KISS reader's state, which goes from call to call by value: whether a flag has come; whether a DB waits for its octet; octets
+ * of the segment so far, escapes undone, 2,562 for all above; the first of them; whether an escape was bad. In `synced`, `pending`
+ * and `bad_escape` any number but 0 stands for true; a call that is not refused gives 0 or 1 back.
+ */
+typedef struct hasfandur_kiss_reader {
+    uint8_t synced;
+    uint8_t pending;
+    size_t count;
+    uint8_t type_octet;
+    uint8_t bad_escape;
+} hasfandur_kiss_reader;
+
+/* The reader's answer: report or refusal; octets of the chunk taken; payload octets, which stand in the buffer from index 1 on,
+ * behind the type octet (0 unless the report is HASFANDUR_QAFT_FRAME); the state for the next call. */
+typedef struct hasfandur_kiss_answer {
+    uint8_t number;
+    size_t taken;
+    size_t length;
+    hasfandur_kiss_reader reader;
+} hasfandur_kiss_answer;
+
+/* The state before any flag. */
+HASFANDUR_MUST_USE hasfandur_kiss_reader hasfandur_kiss_fresh(void);
+
+/*
+ * Reads a chunk of a KISS line up to its first report, as hasfandur_qaft_read does for QAFT. Data frames of port 0 are reported as
+ * HASFANDUR_QAFT_FRAME, frames of another port or command as HASFANDUR_KISS_SKIPPED; a chunk used up as HASFANDUR_QAFT_USED_UP.
+ *
+ * Refusals, the first that applies: HASFANDUR_QAFT_BUFFER_TOO_SMALL (under HASFANDUR_KISS_MAX_SEGMENT octets),
+ * HASFANDUR_QAFT_BAD_STATE (a state that no line leads to). A refusal takes nothing, writes nothing, and gives the very state back
+ * that came.
+ */
+HASFANDUR_MUST_USE hasfandur_kiss_answer hasfandur_kiss_read(hasfandur_kiss_reader state, const uint8_t *chunk, size_t chunk_length,
+                                                             uint8_t *buffer, size_t buffer_length);
+
+/* A conversion's answer: a number; the octets at the front of the out buffer; frames, frames of another port or command, and
+ * other reports of the capture. All but the number are 0 on a refusal. */
+typedef struct hasfandur_conversion {
+    uint8_t number;
+    size_t length;
+    uint64_t frames;
+    uint64_t skipped;
+    uint64_t others;
+} hasfandur_conversion;
+
+/*
+ * A whole QAFT capture as a KISS line at the front of `out`, and a whole KISS capture as a QAFT line of a level: one flag, then each
+ * frame of the capture and a flag; nothing where it has none.
+ *
+ * Refusals, the first that applies: HASFANDUR_QAFT_BAD_LEVEL; HASFANDUR_KISS_OUT_TOO_SMALL to KISS and HASFANDUR_QAFT_OUT_TOO_SMALL
+ * to QAFT, by the length of this very line. A refusal writes nothing.
+ */
+hasfandur_conversion hasfandur_qaft_to_kiss(uint8_t level, const uint8_t *capture, size_t capture_length, uint8_t *out, size_t out_length);
+hasfandur_conversion hasfandur_kiss_to_qaft(uint8_t level, const uint8_t *capture, size_t capture_length, uint8_t *out, size_t out_length);
 
 /* A DLC link's states. */
 /* begin states: written by include/numbers */
@@ -404,6 +480,16 @@ static inline const char *hasfandur_number_name(uint8_t number)
         return "AFP_BAD_DATA";
     case HASFANDUR_AFP_OUT_TOO_SMALL:
         return "AFP_OUT_TOO_SMALL";
+    case HASFANDUR_KISS_BAD_ESCAPE:
+        return "KISS_BAD_ESCAPE";
+    case HASFANDUR_KISS_SHORT:
+        return "KISS_SHORT";
+    case HASFANDUR_KISS_LONG:
+        return "KISS_LONG";
+    case HASFANDUR_KISS_SKIPPED:
+        return "KISS_SKIPPED";
+    case HASFANDUR_KISS_OUT_TOO_SMALL:
+        return "KISS_OUT_TOO_SMALL";
     default:
         return "no number of hasfandur";
     }

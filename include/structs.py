@@ -10,6 +10,9 @@ STRUCTS = [
     ("hasfandur_written", ["qaft_write::Written", "afp_write::Written"], {}),
     ("hasfandur_qaft_reader", ["qaft_plain::PlainReader"], {}),
     ("hasfandur_qaft_answer", ["qaft_plain::PlainAnswer"], {}),
+    ("hasfandur_kiss_reader", ["kiss_plain::PlainReader"], {}),
+    ("hasfandur_kiss_answer", ["kiss_plain::PlainAnswer"], {}),
+    ("hasfandur_conversion", ["conversion::Conversion"], {}),
     ("hasfandur_dlc_queued", ["dlc_queue::Payload"], {"len": "length"}),
     ("hasfandur_dlc_queue", ["dlc_queue::Queue"], {}),
     ("hasfandur_dlc_link", ["dlc_plain::PlainLink"], {}),
@@ -18,7 +21,7 @@ STRUCTS = [
     ("hasfandur_part", ["afp::Part"], {}),
     ("hasfandur_reading", ["afp::Reading"], {}),
 ]
-C_TYPES = {"u8": "uint8_t", "u16": "uint16_t", "usize": "size_t", "bool": "bool"}
+C_TYPES = {"u8": "uint8_t", "u16": "uint16_t", "u64": "uint64_t", "usize": "size_t", "bool": "bool"}
 
 LAYOUT_HEAD = '''/*
  * Sizes and offsets of the header's structs on a machine with 64-bit size_t, as the crates' structs have them, and what the size
@@ -33,6 +36,7 @@ LAYOUT_HEAD = '''/*
     static_assert(offsetof(type, field) == (at) && sizeof(((type *)0)->field) == (size), #type "." #field)
 '''.split("\n")
 LAYOUT_END = '''static_assert(HASFANDUR_QAFT_FRAME_SIZE(HASFANDUR_QAFT_MAX_DATA) == HASFANDUR_QAFT_MAX_FRAME, "longest QAFT frame");
+static_assert(HASFANDUR_KISS_FRAME_SIZE(HASFANDUR_QAFT_MAX_DATA) == HASFANDUR_KISS_MAX_FRAME, "longest KISS frame");
 static_assert(HASFANDUR_DLC_PACKET_SIZE(HASFANDUR_DLC_MAX_PAYLOAD) == HASFANDUR_DLC_MAX_PACKET, "longest packet");
 static_assert(HASFANDUR_DLC_SLOTS * HASFANDUR_DLC_MAX_PACKET == HASFANDUR_DLC_REPLY_SIZE, "reply");
 static_assert(HASFANDUR_AFP_FRAME_SIZE(HASFANDUR_AFP_MIN_HEADER - 6, 0, 0) == HASFANDUR_AFP_MIN_FRAME, "shortest AFP frame");
@@ -74,7 +78,7 @@ def layout(name):
     """Size, alignment and (field, offset, size) of a struct on a machine with 64-bit size_t."""
     at, align, found = 0, 1, []
     for kind, field, many in dict((n, fields(s[0], f)) for n, s, f in STRUCTS)[name]:
-        size, step = {"uint8_t": (1, 1), "bool": (1, 1), "uint16_t": (2, 2), "size_t": (8, 8)}.get(kind) or layout(kind)[:2]
+        size, step = {"uint8_t": (1, 1), "bool": (1, 1), "uint16_t": (2, 2), "uint64_t": (8, 8), "size_t": (8, 8)}.get(kind) or layout(kind)[:2]
         at += -at % step
         found.append((field, at, size * (many or 1)))
         at, align = at + size * (many or 1), max(align, step)

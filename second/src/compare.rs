@@ -2,6 +2,7 @@
 mod afp_cases;
 mod afp_read;
 mod afp_write;
+mod kiss;
 mod link;
 mod listing;
 mod make;
@@ -18,10 +19,14 @@ use tally::Tally;
 type Layer = fn(&Rng, u64, &mut Tally);
 
 /// A layer's name, its function, and the numbers that its inputs have to bring up.
-const LAYERS: [(&str, Layer, &[u8]); 13] = [
+const LAYERS: [(&str, Layer, &[u8]); 17] = [
     ("QAFT check", sums::qaft_check, &[]),
     ("QAFT writer", qaft_write::compare, &[0, 1, 2, 3, 6]),
     ("QAFT reader", reader::compare, &reader::NUMBERS),
+    ("KISS writer", kiss::writer, &[0, 1, 2, 64]),
+    ("KISS reader", kiss::reader, &kiss::READER_NUMBERS),
+    ("QAFT to KISS", kiss::from_qaft, &[0, 6, 64]),
+    ("KISS to QAFT", kiss::to_qaft, &[0, 3, 6]),
     ("AFP sums", sums::afp_sums, &[]),
     ("check sequence", sums::check_sequence, &[]),
     ("AFP cases", afp_cases::compare, &afp_cases::NUMBERS),

@@ -1,6 +1,7 @@
 //! The numbers of include/hasfandur.h against this program's: for each number given back an input that the papers give it for,
 //! for each size the constant here, for each kind of packet one that this program sends. No constant of the header may be left out.
 use crate::afp::{self, check_sequence};
+use crate::kiss;
 use crate::link::{self, Link, Mode};
 use crate::qaft;
 use crate::reader::{self, State};
@@ -65,6 +66,29 @@ fn qaft_numbers() -> Vec<(&'static str, usize)> {
         ("QAFT_SHORT", line(&[0])),
         ("QAFT_BAD_CHECK", line(&[0x41, 0xBE])),
         ("QAFT_USED_UP", line(&[])),
+    ]
+    .map(|(name, number)| (name, number.into()))
+    .to_vec()
+}
+
+fn kiss_numbers() -> Vec<(&'static str, usize)> {
+    let line = |segment: &[u8]| {
+        let flag = &[kiss::FEND][..];
+        let line = [flag, segment, flag].concat();
+        let mut store = [0; kiss::reader::STORE];
+        kiss::reader::read(kiss::reader::State::default(), &line, &mut store)
+            .1
+            .number
+    };
+    [
+        ("KISS_BAD_ESCAPE", line(&[0x00, kiss::FESC, 0x41])),
+        ("KISS_SHORT", line(&[0x00])),
+        ("KISS_LONG", line(&[0x41; kiss::reader::MANY])),
+        ("KISS_SKIPPED", line(&[0x10, 0x41])),
+        (
+            "KISS_OUT_TOO_SMALL",
+            kiss::write(false, &[0x41], &mut [0; 3]).number,
+        ),
     ]
     .map(|(name, number)| (name, number.into()))
     .to_vec()
@@ -182,6 +206,8 @@ fn sizes() -> Vec<(&'static str, usize)> {
         ("QAFT_MAX_DATA", qaft::MAX_DATA),
         ("QAFT_MAX_SEGMENT", reader::STORE),
         ("QAFT_MAX_FRAME", qaft::MAX_FRAME),
+        ("KISS_MAX_SEGMENT", kiss::reader::STORE),
+        ("KISS_MAX_FRAME", kiss::MAX_FRAME),
         ("DLC_MAX_PAYLOAD", link::PAYLOAD),
         ("DLC_MAX_PACKET", link::PAYLOAD + 1),
         ("DLC_SLOTS", link::QUEUE),
@@ -197,6 +223,7 @@ fn sizes() -> Vec<(&'static str, usize)> {
 #[test]
 fn numbers_of_the_header() {
     let mut ours = qaft_numbers();
+    ours.extend(kiss_numbers());
     ours.extend(link_numbers());
     ours.extend(packets_and_states());
     ours.extend(afp_numbers());
