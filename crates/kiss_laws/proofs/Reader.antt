@@ -1,17 +1,15 @@
 -- The reader as framing sees it: what no call refuses stays so, its calls are scans, and every other state and buffer is refused. Assumes nothing.
-use Prim.Native.Nat.{ℕ, _≤_}
+use Prim.Native.Nat.{ℕ}
 use mathlib.Core.Bool.{Bool, true, false, not, _&&_, _||_}
 use mathlib.Core.List.{List}
 use mathlib.Core.Logic.{_⊎_, inl, inr}
 use mathlib.Core.Option.{Option, none, some}
-use mathlib.Core.Path.{_≡_, refl, sym, ap, _∙_, subst}
+use mathlib.Core.Path.{_≡_, refl, sym, ap, _∙_}
 use borrow.Author.Tests.{ltb-true, ltb-false}
 use lib.Dec.{ltb, eqb}
 use lib.ListN.{length}
 use Rattle.framing.proofs.Formed.{step-keeps}
 use Rattle.framing.proofs.Formed as framing
-use Rattle.framing.proofs.Meaning as meaning
-use Rattle.framing.specs.Reports.{reportsOf, shownReports}
 use Rattle.framing.specs.Rules.{State}
 use Rattle.framing.specs.Step.{step}
 use Rattle.framing.specs.Step as steps
@@ -20,16 +18,14 @@ use Rattle.kiss_laws.proofs.Rules.{lawful}
 use Rattle.kiss_read.proofs.Refusals.{Fit, read-bufferTooSmall, read-badState, read-scan}
 use Rattle.kiss_read.proofs.Scanning.{commutes}
 use Rattle.kiss_read.specs.Read.{Call, outcomeOf, callOf, scanCall, refusal, reportOf, readScan}
-use Rattle.kiss_read.specs.State.{fresh, view, place, malformed}
+use Rattle.kiss_read.specs.State.{view, place, malformed}
 use Rattle.kiss_read.specs.Step.{action}
 use Rattle.kiss_read.specs.declared.Reader.{Reader}
 use Rattle.kiss_report.specs.declared.Report.{Report}
 use Rattle.kiss_rules.specs.Rules.{rules}
 use Rattle.line.proofs.Chunks.{Keeps}
-use Rattle.line.proofs.Simulation.{trace-simulates}
-use Rattle.line.specs.Scan.{Action, advance, store, emit, Scan, scan}
-use Rattle.line.specs.Simulation.{placeAction}
-use Rattle.line.specs.Trace.{Trace, trace}
+use Rattle.line.proofs.Simulation.{octet-keeps}
+use Rattle.line.specs.Scan.{Scan, scan}
 use Rattle.qaft.specs.Answers.{bufferTooSmall, badState}
 
 -- ---- refusal 5 is framing's: a type or a bad escape before a flag is one of no octet, or has an octet before a flag
@@ -51,20 +47,10 @@ fit-view r m h = record { room = h .room; formed = sym (malformed-view r) ∙ h 
 fit-place : (s : State ℕ) (m : List ℕ) → framing.Fit rules s m → Fit (place s) m
 fit-place s m h = record { room = h .room; formed = malformed-view (place s) ∙ h .formed }
 
-keeps-placed : (a : Action (State ℕ) Report) (m : List ℕ) → Keeps (step rules) (framing.Fit rules) a m → Keeps action Fit (placeAction place a) m
-keeps-placed (advance s) m k = fit-place s m k
-keeps-placed (store s i x) m k = fit-place s _ k
-keeps-placed (emit p s) m k = fit-place s m k
-
 -- one octet keeps it
 pub action-keeps : (r : Reader) (x : ℕ) (m : List ℕ) → Fit r m → Keeps action Fit (action r x) m
 action-keeps r x m h =
-    subst (λ (a : Action Reader Report). Keeps action Fit a m) (sym (commutes (view r) x))
-    (keeps-placed (step rules (view r) x) m (step-keeps rules lawful (view r) x m (fit-view r m h)))
-
-pub fresh-fit : (m : List ℕ) → maxSegment ≤ length m → Fit fresh m
-unfolding malformed
-fresh-fit m k = record { room = k; formed = refl }
+    octet-keeps place (step rules) action commutes (framing.Fit rules) Fit fit-place (view r) x m (step-keeps rules lawful (view r) x m (fit-view r m h))
 
 -- ---- a call as the generic caller sees it
 reportOf-outcomeOf : (o : Option Report) → reportOf (outcomeOf o) ≡ o
@@ -106,9 +92,3 @@ fit-or-refused r m = go (ltb (length m) maxSegment) refl (malformed r) refl
     go true k c e = inr (λ xs. ap seen (read-bufferTooSmall r xs m (ltb-true _ _ k)) ∙ seen-refusal r m bufferTooSmall)
     go false k true e = inr (λ xs. ap seen (read-badState r xs m (ltb-false _ _ k) e) ∙ seen-refusal r m badState)
     go false k false e = inl (record { room = ltb-false _ _ k; formed = e })
-
--- ---- for consumers of reports: a fresh reader's trace of a line reports what the line reports
-pub trace-reports : (l m : List ℕ) → maxSegment ≤ length m → shownReports rules (trace action fresh l m .events) ≡ reportsOf rules l
-trace-reports l m room =
-    ap (λ (t : Trace Reader Report). shownReports rules (t .events)) (trace-simulates place (step rules) action commutes l (steps.fresh rules) m)
-    ∙ meaning.trace-reports rules lawful l m room

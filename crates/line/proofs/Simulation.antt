@@ -68,6 +68,17 @@ module _ {S T R : Type 0} (h : S → T) (g : S → ℕ → Action S R) (f : T �
     readChunks-simulates xss s m k =
         readChunks-trace f Placed step-keeps call call-scan xss (h s) m (s, refl, k) ∙ trace-simulates (flatten xss) s m
 
+-- ---- what is good at a state is good where the state is taken: an octet that keeps it there keeps it here
+module _ {S T R : Type 0} (h : S → T) (g : S → ℕ → Action S R) (f : T → ℕ → Action T R) (commutes : (s : S) (x : ℕ) → f (h s) x ≡ placeAction h (g s x))
+    (Good : S → List ℕ → Type 0) (Well : T → List ℕ → Type 0) (well : (s : S) (m : List ℕ) → Good s m → Well (h s) m) where
+  taken-keeps : (a : Action S R) (m : List ℕ) → Keeps g Good a m → Keeps f Well (placeAction h a) m
+  taken-keeps (advance s) m k = well s m k
+  taken-keeps (store s i x) m k = well s _ k
+  taken-keeps (emit r s) m k = well s m k
+
+  pub octet-keeps : (s : S) (x : ℕ) (m : List ℕ) → Keeps g Good (g s x) m → Keeps f Well (f (h s) x) m
+  octet-keeps s x m k = subst (λ (a : Action T R). Keeps f Well a m) (sym (commutes s x)) (taken-keeps (g s x) m k)
+
 -- ---- a whole line: reports alone
 module _ {S R Q : Type 0} (j : R → Q) (g : S → ℕ → Action S R) (f : S → ℕ → Action S Q) (commutes : (s : S) (x : ℕ) → f s x ≡ mapAction (λ s. s) j (g s x)) where
   traceOn-retells : (a : Action S R) (xs m : List ℕ) → ((s : S) (n : List ℕ) → trace f s xs n ≡ retellTrace j (trace g s xs n))

@@ -4,7 +4,7 @@ use mathlib.Core.Bool.{Bool, true, false, not, _&&_, _||_}
 use mathlib.Core.List.{List}
 use mathlib.Core.Logic.{_⊎_, inl, inr}
 use mathlib.Core.Option.{Option, none, some}
-use mathlib.Core.Path.{_≡_, refl, sym, ap, _∙_, subst}
+use mathlib.Core.Path.{_≡_, refl, ap, _∙_}
 use borrow.Author.Tests.{ltb-true, ltb-false}
 use lib.Dec.{ltb, eqb}
 use lib.ListN.{length}
@@ -16,9 +16,8 @@ use Rattle.framing.specs.Rules.{State}
 use Rattle.framing.specs.Step.{step}
 use Rattle.framing.specs.Step as steps
 use Rattle.line.proofs.Chunks.{Keeps}
-use Rattle.line.proofs.Simulation.{trace-simulates}
-use Rattle.line.specs.Scan.{Action, advance, store, emit, Scan, scan}
-use Rattle.line.specs.Simulation.{placeAction}
+use Rattle.line.proofs.Simulation.{octet-keeps, trace-simulates}
+use Rattle.line.specs.Scan.{Scan, scan}
 use Rattle.line.specs.Trace.{Trace, trace}
 use Rattle.qaft.specs.Answers.{badLevel, bufferTooSmall, badState}
 use Rattle.qaft.specs.Limits.{maxLevel, maxSegment, countCap}
@@ -48,16 +47,11 @@ fit-place level l s m h = record { level = l; room = h .room; formed = go (eqb (
     go true true false c f e = cc
     go true false false c f e = e
 
-keeps-placed : (level : ℕ) → level ≤ maxLevel → (a : Action (State ℕ) Report) (m : List ℕ) → Keeps (step (rules level)) (framing.Fit (rules level)) a m → Keeps action Fit (placeAction (place level) a) m
-keeps-placed level l (advance s) m k = fit-place level l s m k
-keeps-placed level l (store s i x) m k = fit-place level l s _ k
-keeps-placed level l (emit p s) m k = fit-place level l s m k
-
 -- one octet keeps it
 pub action-keeps : (r : Reader) (x : ℕ) (m : List ℕ) → Fit r m → Keeps action Fit (action r x) m
 action-keeps r x m h =
-    subst (λ (a : Action Reader Report). Keeps action Fit a m) (sym (commutes (r .level) (view r) x))
-    (keeps-placed (r .level) (h .level) (step (rules (r .level)) (view r) x) m (step-keeps (rules (r .level)) (lawful (r .level)) (view r) x m (fit-view r m h)))
+    let l = r .level in
+    octet-keeps (place l) (step (rules l)) action (commutes l) (framing.Fit (rules l)) Fit (fit-place l (h .level)) (view r) x m (step-keeps (rules l) (lawful l) (view r) x m (fit-view r m h))
 
 pub fresh-fit : (level : ℕ) (m : List ℕ) → level ≤ maxLevel → maxSegment ≤ length m → Fit (fresh level) m
 unfolding malformed

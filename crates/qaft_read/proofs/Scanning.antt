@@ -53,7 +53,7 @@ module _ (r : Reader) (xs m : List ℕ) (room : maxSegment ≤ length m) (u : Sc
   buffer-is = sym (ap (λ (v : Scan Reader Report). v .buffer) judged-is)
 
   -- no segment was closed
-  pub open-not-closed : verdictOf (u .closed) (u .state) ≡ Open → u .closed ≡ false
+  open-not-closed : verdictOf (u .closed) (u .state) ≡ Open → u .closed ≡ false
   unfolding verdictOf
   open-not-closed v = by (u .closed) v
     where
