@@ -5,7 +5,9 @@ PREFIX = /usr/local
 INCLUDEDIR = $(PREFIX)/include
 LIBDIR = $(PREFIX)/lib
 
-ARCHIVE = target/staticlib/libhasfandur.a
+ARCHIVE = target/libhasfandur.a
+# its members, each a crate that is compiled by itself: a loop that framings share is then made for each of them
+MEMBERS = hasfandur hasfandur_kiss hasfandur_conversion
 SOURCES = crates.txt $(shell find crates -name '*.rt' -o -name '*.antt')
 
 HEADER_AT = $(DESTDIR)$(INCLUDEDIR)/hasfandur.h
@@ -15,8 +17,9 @@ PC_AT = $(DESTDIR)$(LIBDIR)/pkgconfig/hasfandur.pc
 all: $(ARCHIVE)
 
 $(ARCHIVE): $(SOURCES)
-	rt staticlib hasfandur
-	touch $@
+	set -e; for member in $(MEMBERS); do rt staticlib $$member; done
+	rm -f $@
+	printf '%s\n' 'create $@' $(MEMBERS:%='addlib target/staticlib/lib%.a') save end | ar -M
 
 install: $(ARCHIVE)
 	install -d $(dir $(HEADER_AT)) $(dir $(PC_AT))

@@ -5,11 +5,11 @@ fn main() {
     let target = Path::new(env!("CARGO_MANIFEST_DIR")).join("../target");
     println!(
         "cargo:rustc-link-search=native={}",
-        target.join("staticlib").display()
+        target.display()
     );
     println!(
         "cargo:rerun-if-changed={}",
-        target.join("staticlib/libhasfandur.a").display()
+        target.join("libhasfandur.a").display()
     );
     let built = target.join("bench/c");
     println!("cargo:rerun-if-changed={}", built.display());

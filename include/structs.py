@@ -3,7 +3,8 @@ import re
 
 from crates import Wrong, constant, source, value
 
-ARCHIVE = "hasfandur"
+# the crates whose functions make the archive
+ARCHIVE = ["hasfandur", "hasfandur_kiss", "hasfandur_conversion"]
 
 # structs of the header, and of the crates; a field that has another name in the crate
 STRUCTS = [
@@ -103,9 +104,10 @@ def check_functions(header):
     """Types of what each function gives back and takes; a slice crosses as a pointer and a length."""
     slices = {"&[u8]": ["const uint8_t *", "size_t"], "&mut [u8]": ["uint8_t *", "size_t"]}
     ours = {}
-    for name, takes, gives in re.findall(r'^pub extern "C" fn (\w+)\((.*?)\) -> ([\w:]+)', source(ARCHIVE), re.M | re.S):
-        kinds = [w.split(": ")[1].strip() for w in takes.split(",") if ": " in w]
-        ours[name] = [c_type(gives, ARCHIVE)] + [t for k in kinds for t in slices.get(k) or [c_type(k, ARCHIVE)]]
+    for crate in ARCHIVE:
+        for name, takes, gives in re.findall(r'^pub extern "C" fn (\w+)\((.*?)\) -> ([\w:]+)', source(crate), re.M | re.S):
+            kinds = [w.split(": ")[1].strip() for w in takes.split(",") if ": " in w]
+            ours[name] = [c_type(gives, crate)] + [t for k in kinds for t in slices.get(k) or [c_type(k, crate)]]
     text = re.sub(r"/\*.*?\*/", "", header, flags=re.S).replace("hasfandur_afp_written", "hasfandur_written")
     theirs = {}
     for gives, name, takes in re.findall(r"^(?:HASFANDUR_MUST_USE )?(\w+) (hasfandur_\w+)\(([^)]*)\);", text, re.M):

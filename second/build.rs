@@ -3,7 +3,7 @@
 use std::path::Path;
 
 fn main() {
-    let folder = Path::new(env!("CARGO_MANIFEST_DIR")).join("../target/staticlib");
+    let folder = Path::new(env!("CARGO_MANIFEST_DIR")).join("../target");
     let archive = folder.join("libhasfandur.a");
     println!("cargo:rerun-if-changed={}", archive.display());
     println!("cargo:rustc-link-search=native={}", folder.display());

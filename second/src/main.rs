@@ -5,7 +5,7 @@
 
 #[cfg(archive_missing)]
 compile_error!(
-    "target/staticlib/libhasfandur.a is missing: run `rt staticlib hasfandur` at the repository's top, or second/run"
+    "target/libhasfandur.a is missing: run `make` at the repository's top, or second/run"
 );
 
 #[allow(unsafe_code)]

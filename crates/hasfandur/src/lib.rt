@@ -1,17 +1,11 @@
 // What C programs call: include/hasfandur.h declares each function here and says its contract in words.
 // A slice crosses as a pointer and a length. Each function only calls the library's, and promises the same.
 ghost use mathlib.Core.Path.{_≡_};
-ghost use mathlib.Core.Bool.{true, false};
 ghost use Rattle.qaft.specs.Check.{checkOctet};
 ghost use Rattle.qaft_write.specs.Write.{writeFrame};
 ghost use Rattle.qaft_read.specs.State.{fresh};
 ghost use Rattle.qaft_read.specs.Read.{read};
 ghost use Rattle.qaft_plain.specs.Plain.{readerOf, plainOf, answerOf};
-ghost use Rattle.kiss_write.specs.Write.{writeFrame as writeKiss};
-ghost use Rattle.kiss_read.specs.State.{fresh as freshKiss};
-ghost use Rattle.kiss_read.specs.Read.{read as readKiss};
-ghost use Rattle.kiss_plain.specs.Plain.{readerOf as kissReaderOf, plainOf as kissPlainOf, answerOf as kissAnswerOf};
-ghost use Rattle.conversion.specs.Whole.{convertWhole};
 ghost use Rattle.dlc.specs.Model.{fresh as freshLink};
 ghost use Rattle.dlc.specs.Calls.{StartCall, TimerCall, PayloadCall, ArrivalCall};
 ghost use Rattle.dlc_plain.specs.Plain.{view};
@@ -58,61 +52,6 @@ pub extern "C" fn hasfandur_qaft_read(
     ensures { λ _. ⌜ now (buffer .exit) ≡ read (readerOf reader) (now (chunk .entry)) (now (buffer .entry)) .buffer ⌝ }
 {
     reader.read(chunk, buffer)
-}
-
-#[no_mangle]
-pub extern "C" fn hasfandur_kiss_write(
-    at_flag: bool,
-    payload: &[u8],
-    out: &mut [u8],
-) -> qaft_write::Written
-    ensures { λ r. ⌜ r ≡ writeKiss «at_flag» (now (payload .entry)) (now (out .entry)) .answer ⌝ }
-    ensures { λ _. ⌜ now (out .exit) ≡ writeKiss «at_flag» (now (payload .entry)) (now (out .entry)) .buffer ⌝ }
-{
-    kiss_write::write_frame(at_flag, payload, out)
-}
-
-#[no_mangle]
-pub extern "C" fn hasfandur_kiss_fresh() -> kiss_plain::PlainReader
-    ensures { λ r. ⌜ r ≡ kissPlainOf freshKiss ⌝ }
-{
-    kiss_plain::PlainReader::fresh()
-}
-
-#[no_mangle]
-pub extern "C" fn hasfandur_kiss_read(
-    state: kiss_plain::PlainReader,
-    chunk: &[u8],
-    buffer: &mut [u8],
-) -> kiss_plain::PlainAnswer
-    ensures { λ r. ⌜ r ≡ kissAnswerOf state (readKiss (kissReaderOf state) (now (chunk .entry)) (now (buffer .entry)) .answer) ⌝ }
-    ensures { λ _. ⌜ now (buffer .exit) ≡ readKiss (kissReaderOf state) (now (chunk .entry)) (now (buffer .entry)) .buffer ⌝ }
-{
-    state.read(chunk, buffer)
-}
-
-#[no_mangle]
-pub extern "C" fn hasfandur_qaft_to_kiss(
-    level: u8,
-    capture: &[u8],
-    out: &mut [u8],
-) -> conversion::Conversion
-    ensures { λ r. ⌜ r ≡ convertWhole true level (now (capture .entry)) (now (out .entry)) .answer ⌝ }
-    ensures { λ _. ⌜ now (out .exit) ≡ convertWhole true level (now (capture .entry)) (now (out .entry)) .buffer ⌝ }
-{
-    conversion::qaft_to_kiss(level, capture, out)
-}
-
-#[no_mangle]
-pub extern "C" fn hasfandur_kiss_to_qaft(
-    level: u8,
-    capture: &[u8],
-    out: &mut [u8],
-) -> conversion::Conversion
-    ensures { λ r. ⌜ r ≡ convertWhole false level (now (capture .entry)) (now (out .entry)) .answer ⌝ }
-    ensures { λ _. ⌜ now (out .exit) ≡ convertWhole false level (now (capture .entry)) (now (out .entry)) .buffer ⌝ }
-{
-    conversion::kiss_to_qaft(level, capture, out)
 }
 
 // Each event takes a link and gives it back with an answer.
