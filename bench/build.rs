@@ -3,10 +3,7 @@ use std::path::Path;
 
 fn main() {
     let target = Path::new(env!("CARGO_MANIFEST_DIR")).join("../target");
-    println!(
-        "cargo:rustc-link-search=native={}",
-        target.display()
-    );
+    println!("cargo:rustc-link-search=native={}", target.display());
     println!(
         "cargo:rerun-if-changed={}",
         target.join("libhasfandur.a").display()
@@ -19,6 +16,10 @@ fn main() {
         println!("cargo:rustc-cfg=boost");
         println!("cargo:rustc-link-lib=static=boost_shim");
         println!("cargo:rustc-link-lib=dylib=stdc++");
+    }
+    if built.join("libdirewolf_shim.a").exists() {
+        println!("cargo:rustc-cfg=direwolf");
+        println!("cargo:rustc-link-lib=static=direwolf_shim");
     }
     if built.join("libosmocom_shim.a").exists() {
         println!("cargo:rustc-cfg=osmocom");

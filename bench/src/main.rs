@@ -1,6 +1,8 @@
 //! Times the proved archive beside others, in one process and in CPU time. See docs/SPEED.md.
 mod afp;
 mod clock;
+mod frames;
+mod kiss;
 mod link;
 mod others;
 mod qaft;
@@ -30,8 +32,12 @@ fn main() {
     if cfg!(not(osmocom)) {
         println!("libosmocore is not there: no row has it");
     }
+    if cfg!(not(direwolf)) {
+        println!("direwolf is not there: no row has it");
+    }
     println!("ns of CPU, best of {rounds}; ratio: the best other's time over ours");
-    for make in qaft::ROWS.iter().chain(afp::ROWS).chain(link::ROWS) {
+    let rows = [qaft::ROWS, kiss::ROWS, afp::ROWS, link::ROWS];
+    for make in rows.into_iter().flatten() {
         let row: Row = make();
         row.print(rounds);
     }

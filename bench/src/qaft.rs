@@ -1,8 +1,9 @@
 //! QAFT: the frame writer and the chunk reader.
 use crate::archive;
+use crate::frames;
 use crate::others;
 use crate::row::Row;
-use second::reader::{Answer, State, STORE};
+use second::reader::{Answer, State};
 use second::rng::Rng;
 
 pub const ROWS: &[fn() -> Row] = &[
@@ -16,19 +17,13 @@ pub const ROWS: &[fn() -> Row] = &[
 
 /// The data octets written in a turn, and the octets of a line read, are about this many.
 const OCTETS: usize = 128 << 10;
-/// The largest frame, sercomm's head included, and some room.
-const ROOM: usize = 6000;
 
-/// Random data of the given size each, so that the places of the escapes can't be learnt.
 fn payloads(size: usize) -> Vec<Vec<u8>> {
-    let rng = Rng::new(7);
-    (0..OCTETS / size).map(|_| rng.octets(size)).collect()
+    frames::payloads(OCTETS, size, Rng::octets)
 }
 
-/// The frames of all data one after the other, and the sum of their lengths.
 fn turn(size: usize, write: impl Fn(&[u8], &mut [u8]) -> usize) -> impl FnMut() -> usize {
-    let (payloads, mut out) = (payloads(size), vec![0; ROOM]);
-    move || payloads.iter().map(|data| write(data, &mut out)).sum()
+    frames::writing(&payloads(size), write)
 }
 
 fn writer(what: &'static str, size: usize) -> Row {
@@ -48,45 +43,12 @@ fn writer(what: &'static str, size: usize) -> Row {
     row
 }
 
-/// A line of frames.
-fn line(size: usize) -> Vec<u8> {
-    let mut line = vec![second::qaft::FLAG];
-    let mut out = vec![0; ROOM];
-    for data in payloads(size) {
-        let n = archive::qaft_write(0, true, &data, &mut out).length;
-        line.extend(&out[..n]);
-    }
-    line
-}
-
-/// Reads a line in chunks of a size; gives the sum of the frames' lengths.
-fn read_line(
-    line: &[u8],
-    chunk: usize,
-    store: &mut [u8],
-    read: impl Fn(State, &[u8], &mut [u8]) -> (State, Answer),
-) -> usize {
-    let mut state = State::fresh(0);
-    let mut octets = 0;
-    for chunk in line.chunks(chunk) {
-        let mut rest = chunk;
-        while !rest.is_empty() {
-            let (next, answer) = read(state, rest, store);
-            state = next;
-            octets += answer.length;
-            rest = &rest[answer.taken..];
-        }
-    }
-    octets
-}
-
 fn reading(
     line: &[u8],
     chunk: usize,
     read: impl Fn(State, &[u8], &mut [u8]) -> (State, Answer),
 ) -> impl FnMut() -> usize {
-    let (line, mut store) = (line.to_vec(), vec![0; STORE]);
-    move || read_line(&line, chunk, &mut store, &read)
+    frames::reading(line, chunk, State::fresh(0), read)
 }
 
 /// The archive's reader; its state is in C's numbers.
@@ -103,15 +65,12 @@ fn ours(from: State, chunk: &[u8], store: &mut [u8]) -> (State, Answer) {
 }
 
 fn reader(what: &'static str, size: usize, chunk: usize) -> Row {
-    let line = line(size);
-    let row = Row::new(
-        what,
-        "octet",
-        line.len(),
-        reading(&line, chunk, ours),
-    )
-    .beside("second", reading(&line, chunk, second::reader::read))
-    .beside("plain C", reading(&line, chunk, others::qaft_read));
+    let line = frames::line(&[second::qaft::FLAG], &payloads(size), |d, out| {
+        archive::qaft_write(0, true, d, out).length
+    });
+    let row = Row::new(what, "octet", line.len(), reading(&line, chunk, ours))
+        .beside("second", reading(&line, chunk, second::reader::read))
+        .beside("plain C", reading(&line, chunk, others::qaft_read));
     #[cfg(osmocom)]
     let row = row.beside_like("sercomm", sercomm_reading(size, chunk));
     row
@@ -120,12 +79,7 @@ fn reader(what: &'static str, size: usize, chunk: usize) -> Row {
 /// sercomm on its own line of the same data, in chunks of the same size.
 #[cfg(osmocom)]
 fn sercomm_reading(size: usize, chunk: usize) -> impl FnMut() -> usize {
-    let mut line = Vec::new();
-    let mut out = vec![0; ROOM];
-    for data in payloads(size) {
-        let n = others::osmocom::write(&data, &mut out);
-        line.extend(&out[..n]);
-    }
+    let line = frames::line(&[], &payloads(size), others::osmocom::write);
     let read = move || line.chunks(chunk).map(others::osmocom::read).sum();
     assert_eq!(read(), OCTETS / size * size, "sercomm reads what it wrote");
     read
