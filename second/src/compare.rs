@@ -2,10 +2,13 @@
 mod afp_cases;
 mod afp_read;
 mod afp_write;
+mod captures;
 mod kiss;
 mod link;
 mod listing;
 mod make;
+mod process;
+mod programs;
 mod qaft_write;
 mod reader;
 mod stored;
@@ -19,7 +22,7 @@ use tally::Tally;
 type Layer = fn(&Rng, u64, &mut Tally);
 
 /// A layer's name, its function, and the numbers that its inputs have to bring up.
-const LAYERS: [(&str, Layer, &[u8]); 17] = [
+const LAYERS: [(&str, Layer, &[u8]); 19] = [
     ("QAFT check", sums::qaft_check, &[]),
     ("QAFT writer", qaft_write::compare, &[0, 1, 2, 3, 6]),
     ("QAFT reader", reader::compare, &reader::NUMBERS),
@@ -34,6 +37,16 @@ const LAYERS: [(&str, Layer, &[u8]); 17] = [
     ("AFP writer", afp_write::compare, &afp_write::NUMBERS),
     ("listing, level 0", listing::level_0, &listing::NUMBERS),
     ("listing, level 1", listing::level_1, &listing::NUMBERS),
+    (
+        "programs, QAFT to KISS",
+        programs::from_qaft,
+        &programs::FROM_QAFT,
+    ),
+    (
+        "programs, KISS to QAFT",
+        programs::to_qaft,
+        &programs::TO_QAFT,
+    ),
     ("DLC link, calls", link::calls, &link::NUMBERS),
     ("DLC link, table", link::table, &link::NUMBERS),
     ("DLC link, two ends", link::two_ends, &link::RUN_NUMBERS),

@@ -1,0 +1,4 @@
+// Converts a KISS capture from standard input to QAFT at level 1.
+fn main() {
+    convert_stdin::convert(false, 1);
+}

@@ -1,0 +1,156 @@
+//! Captures for the programs. A capture is made of many pieces, and it is the pieces that are counted: a process for each would
+//! take most of the time.
+use second::rng::Rng;
+use second::{kiss, qaft};
+
+/// How many reads the longest capture takes.
+const READS: usize = 2_500;
+
+/// What a capture of a framing is made of.
+pub struct Framing {
+    flag: u8,
+    escape: u8,
+    /// Octets that are put into a damaged piece.
+    damage: [u8; 4],
+    /// Octets of which every short segment is made.
+    alphabet: [u8; 8],
+    /// What stands on the line of some octets, without the closing flag.
+    body: fn(&Rng, &[u8]) -> Vec<u8>,
+}
+
+pub const QAFT: Framing = Framing {
+    flag: qaft::FLAG,
+    escape: qaft::ESCAPE,
+    damage: [qaft::ESCAPE, qaft::FLAG, 0x11, 0x13],
+    alphabet: [qaft::FLAG, qaft::ESCAPE, 0x00, 0x20, 0x5D, 0xA3, 0x11, 0xEF],
+    body: |rng, octets| qaft::body(rng.below(2) as u8, octets),
+};
+
+pub const KISS: Framing = Framing {
+    flag: kiss::FEND,
+    escape: kiss::FESC,
+    damage: [kiss::FESC, kiss::FEND, kiss::TFEND, kiss::TFESC],
+    alphabet: [
+        kiss::FEND,
+        kiss::FESC,
+        kiss::TFEND,
+        kiss::TFESC,
+        0x00,
+        0x10,
+        0x01,
+        0x7E,
+    ],
+    body: |rng, octets| {
+        let kind = rng.pick(&[0, 0, 0, 0, 0x10, 0x01, 0xC0, rng.octet()]);
+        kiss::escaped(&[&[kind], octets].concat())
+    },
+};
+
+/// Octets with many of those that QAFT or KISS escapes, and of those that stand for them.
+fn octets(rng: &Rng, length: usize) -> Vec<u8> {
+    let mut octets = rng.octets(length);
+    let special = rng.pick(&[0, 1, 4, 8]);
+    for x in &mut octets {
+        if rng.below(8) < special {
+            *x = rng.pick(&[
+                0x7E, 0x7D, 0x11, 0x13, 0x5E, 0x5D, 0x31, 0x33, 0xC0, 0xDB, 0xDC, 0xDD,
+            ]);
+        }
+    }
+    octets
+}
+
+impl Framing {
+    /// One piece of a capture: a frame, a damaged one, a run of flags, or octets without a rule.
+    fn piece(&self, rng: &Rng) -> Vec<u8> {
+        let size = match rng.below(100) {
+            0 => rng.pick(&[2559, 2560, 2561, 2562, 2600, 6000]),
+            1 => rng.between(1, 2_600),
+            _ => rng.between(1, 30),
+        };
+        let mut piece = match rng.below(8) {
+            0 => octets(rng, size),
+            1 => vec![self.flag; rng.between(1, 4)],
+            2 => [&rng.octets(rng.below(3))[..], &[self.flag]].concat(),
+            3 => [&octets(rng, size)[..], &[self.escape, self.flag]].concat(),
+            _ => [&(self.body)(rng, &octets(rng, size))[..], &[self.flag]].concat(),
+        };
+        if rng.once_in(4) {
+            let i = rng.below(piece.len());
+            match rng.below(3) {
+                0 => piece[i] = rng.octet(),
+                1 => piece.insert(i, rng.pick(&self.damage)),
+                _ => drop(piece.remove(i)),
+            }
+        }
+        piece
+    }
+
+    /// A capture of so many pieces, in the portions in which it goes to a program.
+    fn portions(&self, rng: &Rng, pieces: u64) -> Vec<Vec<u8>> {
+        let mut portions: Vec<Vec<u8>> = Vec::new();
+        let cut = rng.pick(&[1, 4, 50, 1000]);
+        // most captures begin at a flag, so that the first frame is one
+        portions.push(if rng.once_in(4) {
+            octets(rng, 3)
+        } else {
+            vec![self.flag]
+        });
+        for _ in 0..pieces {
+            let piece = self.piece(rng);
+            match portions.last_mut() {
+                Some(last) if !rng.once_in(cut) => last.extend(piece),
+                _ => portions.push(piece),
+            }
+        }
+        portions
+    }
+
+    /// Captures of `count` pieces in all, one after another, each with its number of pieces.
+    pub fn captures<'a>(
+        &'a self,
+        rng: &'a Rng,
+        count: u64,
+    ) -> impl Iterator<Item = (u64, Vec<Vec<u8>>)> + 'a {
+        let mut left = count;
+        std::iter::from_fn(move || {
+            if left == 0 {
+                return None;
+            }
+            let most = match rng.below(200) {
+                // more than the programs read at once
+                0 => 6_000,
+                _ => rng.pick(&[0, 1, 2, 3, 5, 10, 50, 130]),
+            };
+            let pieces = left.min(most);
+            left -= pieces;
+            Some((pieces, self.portions(rng, pieces)))
+        })
+    }
+
+    /// A capture that takes a program very many reads, a piece each.
+    pub fn many_reads(&self, rng: &Rng) -> (u64, Vec<Vec<u8>>) {
+        let pieces = std::iter::repeat_with(|| self.piece(rng));
+        let portions = pieces.filter(|piece| !piece.is_empty()).take(READS);
+        (READS as u64, portions.collect())
+    }
+
+    /// Every segment of up to five octets of a small alphabet, flags among them, with a flag after each.
+    pub fn each_segment(&self) -> (u64, Vec<u8>) {
+        let mut longest = vec![vec![]];
+        let mut capture = vec![self.flag];
+        let mut pieces = 0;
+        for _ in 0..5 {
+            longest = longest
+                .iter()
+                .flat_map(|s| self.alphabet.map(|x| [&s[..], &[x]].concat()))
+                .collect();
+            pieces += longest.len() as u64;
+            for segment in &longest {
+                capture.extend(segment);
+                capture.push(self.flag);
+            }
+        }
+        (pieces, capture)
+    }
+}
