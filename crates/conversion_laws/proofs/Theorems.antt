@@ -7,23 +7,25 @@ use native.Mathlib.Omega.{arith}
 use lib.ListN.{length}
 use Rattle.conversion_laws.proofs.Calls.{cap-is, texts-short, chunks-is}
 use Rattle.conversion_laws.proofs.Frames.{frames-writable, kiss-line-reports, qaft-line-reports, kiss-line-frames, qaft-line-frames}
-use Rattle.conversion_laws.proofs.Gists.{reports-told, frames-told, counts-told}
+use Rattle.conversion_laws.proofs.Gists.{frames-told, counts-told}
 use Rattle.conversion_laws.proofs.Texts.{shows, text-line, texts-frames, Counted, tally-counts}
 use Rattle.conversion_laws.specs.Caller.{Written, convertChunks}
 use Rattle.conversion_laws.specs.Frames.{countBefore, countsOf, framesOf, qaftFrames, kissFrames, qaftCounts, kissCounts, sourceFrames, sourceCounts, targetLine, conversionOf}
 use Rattle.converter.proofs.Rules.{lawful, qaft-length, kiss-length}
 use Rattle.converter.specs.Convert.{freshTally, counted, freshConverter, reportText}
 use Rattle.converter.specs.declared.Converter.{Converter}
-use Rattle.converter.specs.Gist.{gistOfQaft, gistOfKiss, sourceRules}
+use Rattle.converter.specs.Gist.{gistOfQaft, gistOfKiss, gistLength, sourceRules}
 use Rattle.converter.specs.declared.Gist.{Gist}
 use Rattle.converter.specs.declared.Gist.the-variants.{Frame, Skipped, Other}
 use Rattle.converter.specs.declared.Tally.{Tally}
 use Rattle.deframer.specs.Scan.{place}
 use Rattle.framing.proofs.Formed.{Fit, fresh-formed, step-keeps}
 use Rattle.framing.proofs.Meaning.{trace-reports}
+use Rattle.framing.proofs.Told.{reports-told}
 use Rattle.framing.specs.Reports.{Reported, reportsOf}
 use Rattle.framing.specs.Rules.{State}
 use Rattle.framing.specs.Step.{fresh, step}
+use Rattle.framing.specs.Told.{toldReport}
 use Rattle.kiss.specs.Limits.{typeSize}
 use Rattle.kiss_laws.proofs.Rules as kissLaws
 use Rattle.kiss_rules.specs.Rules as kissRules
@@ -38,21 +40,19 @@ use Rattle.qaft_laws.proofs.Rules as qaftLaws
 use Rattle.qaft_rules.specs.Rules as qaftRules
 
 -- ---- the reports of the capture, by their gists
+qaft-told : (level : ℕ) (l : List ℕ) → reportsOf (sourceRules true level) l ≡ map (toldReport gistOfQaft) (reportsOf (qaftRules.rules level) l)
+qaft-told level l = reports-told (qaftRules.rules level) gistOfQaft 0 gistLength (qaftLaws.lawful level) (λ p. refl) qaft-length l
+
+kiss-told : (level : ℕ) (l : List ℕ) → reportsOf (sourceRules false level) l ≡ map (toldReport gistOfKiss) (reportsOf kissRules.rules l)
+kiss-told level l = reports-told kissRules.rules gistOfKiss typeSize gistLength kissLaws.lawful (λ p. refl) kiss-length l
+
 gists-frames : (toKiss : Bool) (level : ℕ) (l : List ℕ) → framesOf (λ g. g) (reportsOf (sourceRules toKiss level) l) ≡ sourceFrames toKiss level l
-gists-frames true level l =
-    ap (framesOf (λ g. g)) (reports-told (qaftRules.rules level) gistOfQaft 0 (qaftLaws.lawful level) (lawful true level) (λ p. refl) qaft-length l)
-    ∙ frames-told (qaftRules.rules level) gistOfQaft 0 (qaftLaws.lawful level) (lawful true level) (λ p. refl) qaft-length (reportsOf (qaftRules.rules level) l)
-gists-frames false level l =
-    ap (framesOf (λ g. g)) (reports-told kissRules.rules gistOfKiss typeSize kissLaws.lawful (lawful false level) (λ p. refl) kiss-length l)
-    ∙ frames-told kissRules.rules gistOfKiss typeSize kissLaws.lawful (lawful false level) (λ p. refl) kiss-length (reportsOf kissRules.rules l)
+gists-frames true level l = ap (framesOf (λ g. g)) (qaft-told level l) ∙ frames-told gistOfQaft (reportsOf (qaftRules.rules level) l)
+gists-frames false level l = ap (framesOf (λ g. g)) (kiss-told level l) ∙ frames-told gistOfKiss (reportsOf kissRules.rules l)
 
 gists-counts : (toKiss : Bool) (level : ℕ) (l : List ℕ) → countsOf (λ g. g) (reportsOf (sourceRules toKiss level) l) ≡ sourceCounts toKiss level l
-gists-counts true level l =
-    ap (countsOf (λ g. g)) (reports-told (qaftRules.rules level) gistOfQaft 0 (qaftLaws.lawful level) (lawful true level) (λ p. refl) qaft-length l)
-    ∙ counts-told (qaftRules.rules level) gistOfQaft 0 (qaftLaws.lawful level) (lawful true level) (λ p. refl) qaft-length (reportsOf (qaftRules.rules level) l)
-gists-counts false level l =
-    ap (countsOf (λ g. g)) (reports-told kissRules.rules gistOfKiss typeSize kissLaws.lawful (lawful false level) (λ p. refl) kiss-length l)
-    ∙ counts-told kissRules.rules gistOfKiss typeSize kissLaws.lawful (lawful false level) (λ p. refl) kiss-length (reportsOf kissRules.rules l)
+gists-counts true level l = ap (countsOf (λ g. g)) (qaft-told level l) ∙ counts-told gistOfQaft (reportsOf (qaftRules.rules level) l)
+gists-counts false level l = ap (countsOf (λ g. g)) (kiss-told level l) ∙ counts-told gistOfKiss (reportsOf kissRules.rules l)
 
 source-writable : (toKiss : Bool) (level : ℕ) (l : List ℕ) → Writable (sourceFrames toKiss level l)
 source-writable toKiss level l = subst Writable (gists-frames toKiss level l) (frames-writable toKiss level l)

@@ -3,13 +3,13 @@ use Prim.Native.Nat.{ℕ, _-_, _≤_}
 use mathlib.Core.Bool.{Bool, true, false}
 use mathlib.Core.Path.{_≡_, refl, _∙_}
 use native.Mathlib.Omega.{arith}
-use Rattle.converter.specs.Gist.{gistOfQaft, gistOfKiss, gistLength, gisted, sourceRules, ruleOf}
+use Rattle.converter.specs.Gist.{gistOfQaft, gistOfKiss, gistLength, sourceRules, ruleOf}
 use Rattle.converter.specs.declared.Gist.{Gist}
 use Rattle.converter.specs.declared.Gist.the-variants.{Frame, Skipped, Other}
 use Rattle.deframer.specs.Rule.{rulesOf}
+use Rattle.framing.proofs.Told.{told-closing, told-lawful}
 use Rattle.framing.specs.Closing.{closing}
 use Rattle.framing.specs.Lawful.{Lawful}
-use Rattle.framing.specs.Rules.{Rules}
 use Rattle.kiss.specs.Limits.{typeSize}
 use Rattle.kiss_laws.proofs.Rules as kissLaws
 use Rattle.kiss_read.proofs.SharedRule as kissReader
@@ -40,29 +40,14 @@ kiss-length kissReport.Short = refl
 kiss-length kissReport.Long = refl
 kiss-length kissReport.Skipped = refl
 
--- rules stay lawful
-module _ {R : Type 0} (rules : Rules ℕ R) (gist : R → Gist) (i : ℕ) (law : Lawful rules) (from-is : (p : R) → rules .from p ≡ i) (length-is : (p : R) → gistLength (gist p) ≡ rules .size p) where
-  gisted-lawful : Lawful (gisted rules gist i)
-  gisted-lawful = record {
-    shows-stored = λ d b n a h.
-        let p = rules .verdict d b n a in
-        let k = law .shows-stored d b n a (omega (arith, h, length-is p)) in
-        (omega (arith, k .0, length-is p, from-is p), k .1);
-    skips-no-flag = law .skips-no-flag;
-    blank-isBlank = law .blank-isBlank;
-  }
-
 pub lawful : (toKiss : Bool) (level : ℕ) → Lawful (sourceRules toKiss level)
-lawful true level = gisted-lawful (qaftRules.rules level) gistOfQaft 0 (qaftLaws.lawful level) (λ p. refl) qaft-length
-lawful false level = gisted-lawful kissRules.rules gistOfKiss typeSize kissLaws.lawful (λ p. refl) kiss-length
+lawful true level = told-lawful (qaftRules.rules level) gistOfQaft 0 gistLength (qaftLaws.lawful level) (λ p. refl) qaft-length
+lawful false level = told-lawful kissRules.rules gistOfKiss typeSize gistLength kissLaws.lawful (λ p. refl) kiss-length
 
 -- the rule of the shared loop
-gisted-closing : {R : Type 0} (rules : Rules ℕ R) (gist : R → Gist) (i : ℕ) → closing rules ≡ closing (gisted rules gist i)
-gisted-closing rules gist i = refl
-
 pub rule-rules : (toKiss : Bool) (level : ℕ) → rulesOf (ruleOf toKiss) ≡ closing (sourceRules toKiss level)
-rule-rules true level = qaftReader.rule-rules level ∙ gisted-closing (qaftRules.rules level) gistOfQaft 0
-rule-rules false level = kissReader.rule-rules ∙ gisted-closing kissRules.rules gistOfKiss typeSize
+rule-rules true level = qaftReader.rule-rules level ∙ told-closing (qaftRules.rules level) gistOfQaft 0 gistLength
+rule-rules false level = kissReader.rule-rules ∙ told-closing kissRules.rules gistOfKiss typeSize gistLength
 
 -- ---- a frame has 1 to 2,560 octets
 abbrev pub Within : Gist → Type 0

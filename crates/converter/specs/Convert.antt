@@ -37,12 +37,9 @@ counted t (Frame n) = record { «at_flag» = true; frames = next (t .frames); sk
 counted t Skipped = record { «at_flag» = t .«at_flag»; frames = t .frames; skipped = next (t .skipped); others = t .others }
 counted t Other = record { «at_flag» = t .«at_flag»; frames = t .frames; skipped = t .skipped; others = next (t .others) }
 
--- the states of reading before any flag, and behind one
+-- the state of reading before any flag
 abbrev pub fresh : declared.State
 fresh = record { synced = false; pending = false; bad = false; count = 0; check = 0 }
-
-abbrev pub opened : declared.State
-opened = record { synced = true; pending = false; bad = false; count = 0; check = 0 }
 
 abbrev pub freshConverter : (toKiss : Bool) (level : ℕ) → Converter
 freshConverter toKiss level = record { «to_kiss» = toKiss; level = level; state = fresh; tally = freshTally }

@@ -14,6 +14,7 @@ use Rattle.deframer.specs.declared.State.{State}
 use Rattle.framing.specs.Closing.{verdictOn}
 use Rattle.framing.specs.Reports.{shown}
 use Rattle.framing.specs.Rules.{Rules}
+use Rattle.framing.specs.Told.{told}
 use Rattle.kiss.specs.Frame as kiss
 use Rattle.kiss.specs.Limits.{typeSize}
 use Rattle.kiss_read.specs.Scanned as kissReader
@@ -47,30 +48,13 @@ gistLength (Frame n) = n
 gistLength Skipped = 0
 gistLength Other = 0
 
--- rules with the gist of each report, whose octets stand in the buffer from the index i on
-abbrev pub gisted : {R : Type 0} → Rules ℕ R → (R → Gist) → (i : ℕ) → Rules ℕ Gist
-gisted rules gist i = record {
-  flag = rules .flag;
-  escape = rules .escape;
-  skips = rules .skips;
-  partner = rules .partner;
-  badPair = rules .badPair;
-  cap = rules .cap;
-  blank = rules .blank;
-  add = rules .add;
-  isBlank = rules .isBlank;
-  verdict = λ d b n a. gist (rules .verdict d b n a);
-  from = λ p. i;
-  size = gistLength;
-}
-
 -- ---- by which way it goes
 -- the octets of a frame stand at the buffer's front, or behind KISS's type octet
 abbrev pub dataFrom : (toKiss : Bool) → ℕ
 dataFrom toKiss = cond toKiss 0 typeSize
 
 abbrev pub sourceRules : (toKiss : Bool) (level : ℕ) → Rules ℕ Gist
-sourceRules toKiss level = cond toKiss (gisted (qaftRules.rules level) gistOfQaft 0) (gisted kissRules.rules gistOfKiss typeSize)
+sourceRules toKiss level = cond toKiss (told (qaftRules.rules level) gistOfQaft 0 gistLength) (told kissRules.rules gistOfKiss typeSize gistLength)
 
 -- the same as the rule of the shared loop
 abbrev pub ruleOf : (toKiss : Bool) → Rule

@@ -7,7 +7,7 @@ ghost use lib.ListN.{length};
 ghost use Rattle.common.specs.Buffer.{withFront};
 ghost use Rattle.qaft.specs.Limits.{maxLevel, maxData, maxSegment, maxFrame};
 ghost use Rattle.converter.specs.Gist.{gistOfQaft, gistOfKiss, gistLength, gistOf, ruleOf, textBy};
-ghost use Rattle.converter.specs.Convert.{counted, freshConverter, tooSmall, later, opened, callOf, gathered, convert};
+ghost use Rattle.converter.specs.Convert.{counted, freshConverter, tooSmall, later, callOf, gathered, convert};
 use deframer::Rule;
 use deframer::State;
 
@@ -206,7 +206,7 @@ fn put_frames(c: Converter, chunk: &[u8], buffer: &mut [u8], out: &mut [u8]) -> 
             let gist = c.gist(scanned.state);
             at += c.put(tally.at_flag, gist.length(), buffer, &mut out[at..]);
             tally = tally.with(gist);
-            state = opened();
+            state = rule.opened();
         } else {
             return Converted {
                 number: qaft::DONE,
@@ -242,19 +242,6 @@ fn source_rule(to_kiss: bool) -> Rule
         return qaft_read::rule();
     }
     kiss_read::rule()
-}
-
-// The state behind a flag, which opens a segment.
-fn opened() -> State
-    ensures { λ r. ⌜ r ≡ opened ⌝ }
-{
-    State {
-        synced: true,
-        pending: false,
-        bad: false,
-        count: 0,
-        check: 0,
-    }
 }
 
 fn gist_of_qaft(report: qaft_report::Report) -> Gist

@@ -2,4 +2,5 @@ pub mod Checks
 pub mod Ways
 pub mod Runs
 pub mod Judged
+pub mod Turns
 pub mod Steps

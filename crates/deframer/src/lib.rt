@@ -43,7 +43,7 @@ pub struct State {
 }
 
 // The answer to a call. Where a segment was closed, `state` is the state in which the flag found it, and the next call starts
-// from `opened`; else it is the state for the next call.
+// from `Rule::opened`; else it is the state for the next call.
 pub struct Scanned {
     pub closed: bool,
     pub taken: usize,
@@ -192,7 +192,7 @@ impl Rule {
     }
 
     // The state behind a flag, which opens a segment.
-    fn opened(self) -> State
+    pub fn opened(self) -> State
         ensures { λ r. ⌜ r ≡ opened self ⌝ }
     {
         State {

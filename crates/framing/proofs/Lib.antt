@@ -18,3 +18,4 @@ pub mod Closing
 pub mod Emitted
 pub mod Escaping
 pub mod Frames
+pub mod Told

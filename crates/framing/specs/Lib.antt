@@ -7,3 +7,4 @@ pub mod Stored
 pub mod PlainReading
 pub mod Run
 pub mod Closing
+pub mod Told

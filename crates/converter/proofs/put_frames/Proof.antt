@@ -6,14 +6,15 @@ use native.Mathlib.Omega.{arith}
 use borrow.Author.Needs.{needs}
 use lib.ListN.{length, take, drop, length-drop}
 use lib.Seq.{length-take-le}
-use Rattle.converter.proofs.Rules.{Within}
-use Rattle.converter.proofs.Turns.{textsAt, onwards, start-inv, turn-full, turn-within, turn-ends, turn-takes, turn-within-limits, put-long, put-fits, turn-put, within-length}
+use Rattle.converter.proofs.Rules.{Within, rule-rules}
+use Rattle.converter.proofs.Turns.{cap-is, textsAt, onwards, answered, gist-within, put-out, put-behind, put-long, put-fits, within-length}
 use Rattle.converter.proofs.put_frames.Statement.{statement}
 use Rattle.converter.proofs.put_frames.Tie as tie
-use Rattle.converter.specs.Convert.{gathered}
-use Rattle.converter.specs.Gist.{ruleOf}
+use Rattle.converter.specs.Convert.{reportText, counted, gathered}
+use Rattle.converter.specs.Gist.{sourceRules, ruleOf}
 use Rattle.converter.specs.declared.Converter.{Converter}
-use Rattle.deframer.specs.Scan.{scanned}
+use Rattle.deframer.proofs.Turns.{Turn, start-inv, turn-full, turn-within, turn-ends, turn-takes, turn-goes}
+use Rattle.deframer.specs.Scan.{opened, scanned}
 use Rattle.deframer.specs.declared.Rule.{Rule}
 use Rattle.line.specs.Gather.{later}
 use Rattle.qaft.specs.Answers.{done}
@@ -29,7 +30,7 @@ Inv-loop c chunk buffer₀ out₀ last rule state₀ tally₀ i₀ at₀ buffer 
 abbrev μ-loop : tie.MeasureT-loop
 μ-loop c chunk buffer₀ out₀ last rule state₀ tally₀ i₀ at₀ buffer out state tally i at = length chunk - i
 
--- ---- the laws of a turn, behind its call of the shared loop
+-- ---- a turn, behind its call of the shared loop
 room : (k : tie.After-scan Inv-loop μ-loop) → k .before .before .before .before .loop .at + maxFrame ≤ length (k .before .before .before .before .loop .out)
 room k =
     let p = k .before .before .before .before .before .before .before .before .before .before .before in
@@ -40,34 +41,26 @@ segment k =
     let p = k .before .before .before .before .before .before .before .before .before .before .before in
     omega (arith, k .before .before .before .before .loop .inv .1, p .pre .2)
 
-handed : (k : tie.After-scan Inv-loop μ-loop)
+-- what the shared loop gave back, by the rule of the source
+turn : (k : tie.After-scan Inv-loop μ-loop)
     → let l = k .before .before .before .before .loop in
     let a = k .before .before .before .before .before .before .before .before .before .before .before .args in
-    let rest = take (length (a .chunk .now) - l .i) (drop (l .i) (a .chunk .now)) in
-    (k .scan .result ≡ scanned (ruleOf (a .c .«to_kiss»)) (l .state) rest (l .buffer) .answer)
-    × (k .scan .last .1 .1 .1 .0 ≡ scanned (ruleOf (a .c .«to_kiss»)) (l .state) rest (l .buffer) .buffer)
-handed k =
+    let toKiss = a .c .«to_kiss» in
+    Turn (reportText toKiss (a .c .level)) counted maxFrame (ruleOf toKiss) (sourceRules toKiss (a .c .level)) (rule-rules toKiss (a .c .level))
+    (gathered (a .c) (a .chunk .now) (a .buffer .now) (a .out .now)) (l .state) (l .tally) (a .chunk .now) (l .buffer) (l .out) (l .i) (l .at) (k .scan .result) (k .scan .last .1 .1 .1 .0)
+turn k =
     let l = k .before .before .before .before .loop in
     let a = k .before .before .before .before .before .before .before .before .before .before .before .args in
     let r = k .before .before .before .before .before .before .before .source-rule .ensures in
-    let rest = take (length (a .chunk .now) - l .i) (drop (l .i) (a .chunk .now)) in (
-      k .scan .ensures .0 ∙ ap (λ (x : Rule). scanned x (l .state) rest (l .buffer) .answer) r,
-      k .scan .ensures .1 ∙ ap (λ (x : Rule). scanned x (l .state) rest (l .buffer) .buffer) r,
-    )
-
-within : (k : tie.After-scan Inv-loop μ-loop) → k .before .before .before .before .loop .i + k .scan .result .taken ≤ length (k .before .before .before .before .before .before .before .before .before .before .before .args .chunk .now)
-within k =
-    let l = k .before .before .before .before .loop in
-    let a = k .before .before .before .before .before .before .before .before .before .before .before .args in
-    let h = handed k in
-    turn-within (a .c) _ (l .state) (l .tally) (a .chunk .now) (l .buffer) (l .out) (l .i) (l .at) (l .inv .0) (segment k) (room k) (l .inv .3) _ refl _ _ (h .0) (h .1)
-
-takes : (k : tie.After-scan Inv-loop μ-loop) → k .scan .result .closed ≡ true → 0 < k .scan .result .taken
-takes k shut =
-    let l = k .before .before .before .before .loop in
-    let a = k .before .before .before .before .before .before .before .before .before .before .before .args in
-    let h = handed k in
-    turn-takes (a .c) _ (l .state) (l .tally) (a .chunk .now) (l .buffer) (l .out) (l .i) (l .at) (l .inv .0) (segment k) (room k) (l .inv .3) _ refl _ _ (h .0) (h .1) shut
+    let rest = take (length (a .chunk .now) - l .i) (drop (l .i) (a .chunk .now)) in
+    record {
+      within = l .inv .0;
+      segment = omega (arith, segment k, cap-is (a .c .«to_kiss»));
+      room = room k;
+      inv = l .inv .3;
+      answer = k .scan .ensures .0 ∙ ap (λ (x : Rule). scanned x (l .state) rest (l .buffer) .answer) r;
+      buffer = k .scan .ensures .1 ∙ ap (λ (x : Rule). scanned x (l .state) rest (l .buffer) .buffer) r;
+    }
 
 sub-last : tie.Need-sub-last Inv-loop μ-loop
 sub-last c = search needs
@@ -76,7 +69,11 @@ source-rule-requires : tie.Need-source-rule-requires Inv-loop μ-loop
 source-rule-requires c κs = search needs
 
 loop-holds : tie.Need-loop-holds Inv-loop μ-loop
-loop-holds c = (omega arith, refl, refl, start-inv _ _ _ _ (c .before .before .before .before .before .before .pre .1))
+loop-holds c =
+    let p = c .before .before .before .before .before .before in
+    let toKiss = p .args .c .«to_kiss» in
+    let level = p .args .c .level in
+    (omega arith, refl, refl, start-inv (reportText toKiss level) counted maxFrame (ruleOf toKiss) (sourceRules toKiss level) (rule-rules toKiss level) _ _ _ _ _ (p .pre .1))
 
 sub-scan : tie.Need-sub-scan Inv-loop μ-loop
 sub-scan c = search needs
@@ -91,7 +88,7 @@ scan-requires : tie.Need-scan-requires Inv-loop μ-loop
 scan-requires c κs = search needs
 
 add-i : tie.Need-add-i Inv-loop μ-loop
-add-i c = omega (arith, within (c .before .before .before))
+add-i c = omega (arith, turn-within _ _ _ _ _ _ (turn (c .before .before .before)))
 
 gist-requires : tie.Need-gist-requires Inv-loop μ-loop
 gist-requires c κs = search needs
@@ -113,10 +110,9 @@ put-requires c κs =
     let k = c .before .before .before .before .before .before .before .before in
     let l = k .before .before .before .before .loop in
     let a = k .before .before .before .before .before .before .before .before .before .before .before .args in
-    let h = handed k in
     let p = k .before .before .before .before .before .before .before .before .before .before .before in
     let g = c .before .before .before .gist .ensures in
-    let w = turn-within-limits (a .c) _ (l .state) (l .tally) (a .chunk .now) (l .buffer) (l .out) (l .i) (l .at) (l .inv .0) (segment k) (room k) (l .inv .3) _ refl _ _ (h .0) (h .1) (c .before .before .before .before .if1 .taken) in
+    let w = gist-within (a .c) (k .scan .result .state) in
     let n = length-drop (l .at) (l .out) in (
       p .pre .0,
       omega (arith, c .before .before .length .ensures, within-length (c .before .before .before .gist .result) (subst Within (sym g) w)),
@@ -129,9 +125,8 @@ add-at c =
     let k = c .before .before .before .before .before .before .before .before .before .before .before in
     let l = k .before .before .before .before .loop in
     let a = k .before .before .before .before .before .before .before .before .before .before .before .args in
-    let h = handed k in
-    let q = c .before .before .put in
-    omega (arith, l .inv .2, k .before .before .before .before .before .before .before .before .before .before .before .good .1 .1 .1 .0, put-fits (a .c) _ (l .state) (l .tally) (a .chunk .now) (l .buffer) (l .out) (l .i) (l .at) (l .inv .0) (segment k) (room k) (l .inv .3) _ refl _ _ (h .0) (h .1) (c .before .before .before .before .before .before .before .if1 .taken) _ (c .before .before .before .before .before .before .gist .ensures) _ (c .before .before .before .before .before .length .ensures) _ _ (q .ensures .0) (q .ensures .1))
+    let q = c .before .before .put .ensures in
+    omega (arith, l .inv .2, k .before .before .before .before .before .before .before .before .before .before .before .good .1 .1 .1 .0, put-fits (a .c) (k .scan .result .state) (l .tally) _ (l .out) (l .at) (room k) _ (c .before .before .before .before .before .before .gist .ensures) _ (c .before .before .before .before .before .length .ensures) _ _ (q .0) (q .1))
 
 with-requires : tie.Need-with-requires Inv-loop μ-loop
 with-requires c κs = search needs
@@ -140,19 +135,27 @@ opened-requires : tie.Need-opened-requires Inv-loop μ-loop
 opened-requires c κs = search needs
 
 loop-less : tie.Need-loop-less Inv-loop μ-loop
-loop-less c = omega (arith, within (c .before .before .before .before .before .before .before .before .before .before .before .before .before), takes (c .before .before .before .before .before .before .before .before .before .before .before .before .before) (c .before .before .before .before .before .before .before .before .before .if1 .taken))
+loop-less c =
+    let k = c .before .before .before .before .before .before .before .before .before .before .before .before .before in
+    omega (arith, turn-within _ _ _ _ _ _ (turn k), turn-takes _ _ _ _ _ _ (turn k) (c .before .before .before .before .before .before .before .before .before .if1 .taken))
 
 loop-again : tie.Need-loop-again Inv-loop μ-loop
 loop-again c =
     let k = c .before .before .before .before .before .before .before .before .before .before .before .before .before in
     let l = k .before .before .before .before .loop in
     let a = k .before .before .before .before .before .before .before .before .before .before .before .args in
-    let h = handed k in
-    let q = c .before .before .before .before .put in (
-      within k,
+    let toKiss = a .c .«to_kiss» in
+    let s = k .scan .result .state in
+    let q = c .before .before .before .before .put .ensures in
+    let g = c .before .before .before .before .before .before .before .before .gist .ensures in
+    let n = c .before .before .before .before .before .before .before .length .ensures in
+    let z = c .opened .ensures ∙ ap opened (k .before .before .before .before .before .before .before .source-rule .ensures) in
+    let goes = turn-goes _ _ _ _ _ _ (turn k) (c .before .before .before .before .before .before .before .before .before .if1 .taken) _ g _ _ _ _ z (c .before .with .ensures)
+    (put-out (a .c) s (l .tally) _ (l .out) (l .at) (room k) _ g _ n _ _ (q .0) (q .1)) (put-behind (a .c) s (l .tally) _ (l .out) (l .at) (room k) _ g _ n _ _ (q .0) (q .1)) in (
+      turn-within _ _ _ _ _ _ (turn k),
       k .scan .kept .1 .1 .1 .0 ∙ l .inv .1,
-      put-long (a .c) _ (l .state) (l .tally) (a .chunk .now) (l .buffer) (l .out) (l .i) (l .at) (l .inv .0) (segment k) (room k) (l .inv .3) _ refl _ _ (h .0) (h .1) (c .before .before .before .before .before .before .before .before .before .if1 .taken) _ (c .before .before .before .before .before .before .before .before .gist .ensures) _ (c .before .before .before .before .before .before .before .length .ensures) _ _ (q .ensures .0) (q .ensures .1) ∙ l .inv .2,
-      turn-put (a .c) _ (l .state) (l .tally) (a .chunk .now) (l .buffer) (l .out) (l .i) (l .at) (l .inv .0) (segment k) (room k) (l .inv .3) _ refl _ _ (h .0) (h .1) (c .before .before .before .before .before .before .before .before .before .if1 .taken) _ (c .before .before .before .before .before .before .before .before .gist .ensures) _ (c .before .before .before .before .before .before .before .length .ensures) _ _ (q .ensures .0) (q .ensures .1) _ _ (c .before .with .ensures) (c .opened .ensures),
+      put-long (a .c) s (l .tally) _ (l .out) (l .at) (room k) _ g _ n _ _ (q .0) (q .1) ∙ l .inv .2,
+      goes,
     )
 
 later-requires : tie.Need-later-requires Inv-loop μ-loop
@@ -169,9 +172,8 @@ returns c =
     let k = c .before .before .before .before .before in
     let l = k .before .before .before .before .loop in
     let a = k .before .before .before .before .before .before .before .before .before .before .before .args in
-    let h = handed k in
-    let e = turn-ends (a .c) _ (l .state) (l .tally) (a .chunk .now) (l .buffer) (l .out) (l .i) (l .at) (l .inv .0) (segment k) (room k) (l .inv .3) _ refl _ _ (h .0) (h .1) (c .before .if1 .left) in
-    (ap (λ (d : Converter). record { number = done; taken = l .i + k .scan .result .taken; length = l .at; converter = d }) (c .later .ensures) ∙ e .0, (e .1, e .2))
+    let e = answered (a .c) _ _ (l .tally) _ (l .out) _ (l .at) _ (turn-ends _ _ _ _ _ _ (turn k) (c .before .if1 .left)) (c .later .ensures) in
+    (e .0, (e .1, e .2))
 
 later-requires-2 : tie.Need-later-requires-2 Inv-loop μ-loop
 later-requires-2 c κs = search needs
@@ -186,8 +188,11 @@ returns-2 : tie.Need-returns-2 Inv-loop μ-loop
 returns-2 c =
     let l = c .before .before .loop in
     let p = c .before .before .before .before .before .before .before .before .before in
-    let e = turn-full (p .args .c) _ (l .state) _ (l .buffer) (l .tally) (l .out) (l .i) (l .at) (omega (arith, c .before .loop-test .left, l .inv .2, p .pre .1)) (l .inv .3) in
-    (ap (λ (d : Converter). record { number = done; taken = l .i; length = l .at; converter = d }) (c .later2 .ensures) ∙ e .0, (e .1, e .2))
+    let a = p .args in
+    let toKiss = a .c .«to_kiss» in
+    let full = turn-full (reportText toKiss (a .c .level)) counted maxFrame (ruleOf toKiss) (sourceRules toKiss (a .c .level)) (rule-rules toKiss (a .c .level)) _ (l .state) _ (l .buffer) (l .tally) (l .out) (l .i) (l .at) (omega (arith, c .before .loop-test .left, l .inv .2, p .pre .1)) (l .inv .3) in
+    let e = answered (a .c) _ (l .state) (l .tally) (l .buffer) (l .out) (l .i) (l .at) _ full (c .later2 .ensures) in
+    (e .0, (e .1, e .2))
 
 pub put-frames-spec : {M : Type 1} → statement M
 put-frames-spec =
