@@ -22,7 +22,7 @@ use tally::Tally;
 type Layer = fn(&Rng, u64, &mut Tally);
 
 /// A layer's name, its function, and the numbers that its inputs have to bring up.
-const LAYERS: [(&str, Layer, &[u8]); 19] = [
+const LAYERS: [(&str, Layer, &[u8]); 20] = [
     ("QAFT check", sums::qaft_check, &[]),
     ("QAFT writer", qaft_write::compare, &[0, 1, 2, 3, 6]),
     ("QAFT reader", reader::compare, &reader::NUMBERS),
@@ -37,6 +37,7 @@ const LAYERS: [(&str, Layer, &[u8]); 19] = [
     ("AFP writer", afp_write::compare, &afp_write::NUMBERS),
     ("listing, level 0", listing::level_0, &listing::NUMBERS),
     ("listing, level 1", listing::level_1, &listing::NUMBERS),
+    ("listing, KISS", listing::kiss, &listing::KISS_NUMBERS),
     (
         "programs, QAFT to KISS",
         programs::from_qaft,

@@ -21,23 +21,23 @@ impl Counts {
         }
     }
 
-    // The counts with the octets of a chunk added.
-    pub fn add(self, chunk: &[u8]) -> Self
-        ensures { λ r. ⌜ r ≡ countAll self (now (chunk .entry)) ⌝ }
+    // The counts with the octets of a chunk added, of a line with this flag.
+    pub fn add(self, flag: u8, chunk: &[u8]) -> Self
+        ensures { λ r. ⌜ r ≡ countAll flag self (now (chunk .entry)) ⌝ }
     {
         let mut c = self;
         let mut i = 0;
         while i < chunk.len() {
-            c = c.add_octet(chunk[i]);
+            c = c.add_octet(flag, chunk[i]);
             i += 1;
         }
         c
     }
 
-    fn add_octet(self, x: u8) -> Self
-        ensures { λ r. ⌜ r ≡ count self x ⌝ }
+    fn add_octet(self, flag: u8, x: u8) -> Self
+        ensures { λ r. ⌜ r ≡ count flag self x ⌝ }
     {
-        if x == qaft::FLAG {
+        if x == flag {
             return Counts {
                 synced: true,
                 before: self.before,

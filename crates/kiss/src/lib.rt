@@ -16,6 +16,9 @@ pub const ESCAPED_ESCAPE: u8 = 0xDD;
 // The type octet of a data frame of port 0.
 pub const DATA_TYPE: u8 = 0x00;
 
+// It stands before the payload.
+pub const TYPE_SIZE: usize = 1;
+
 // The octets of a segment that is a frame, escapes undone: type and payload.
 pub const MIN_SEGMENT: usize = 2;
 

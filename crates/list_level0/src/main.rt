@@ -1,4 +1,4 @@
 // Lists a captured line from standard input at level 0.
 fn main() {
-    list_stdin::list(0);
+    list_stdin::list(false, 0);
 }

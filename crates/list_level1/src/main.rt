@@ -1,4 +1,4 @@
 // Lists a captured line from standard input at level 1.
 fn main() {
-    list_stdin::list(1);
+    list_stdin::list(false, 1);
 }

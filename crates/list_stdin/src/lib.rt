@@ -1,4 +1,4 @@
-// Lists a captured line from standard input to standard output. What is listed is proved in `lister`; here octets are moved.
+// Lists a captured line, of KISS or of QAFT at a level, from standard input to standard output. What is listed is proved in `lister`; here octets are moved.
 // Memory is constant: one chunk, one segment and some lines at a time. Each chunk's lines are written before the next is read,
 // so that a live line shows at once.
 ghost use mathlib.Core.Path.{_≡_};
@@ -20,7 +20,7 @@ enum Turn {
 }
 
 // Lists standard input to its end. A level that is none is refused before anything is read or written.
-pub fn list(level: u8) -> u8
+pub fn list(kiss: bool, level: u8) -> u8
     ensures { λ r. ⌜ r ≡ cond (ltb maxLevel level) badLevel done ⌝ }
 {
     if qaft::MAX_LEVEL < level {
@@ -29,9 +29,9 @@ pub fn list(level: u8) -> u8
     let mut input = io::large_buffer();
     let mut buffer = [0u8; qaft::MAX_SEGMENT];
     let mut out = io::large_buffer();
-    let heading = listing::put_heading(level, &mut out, 0);
+    let heading = listing::put_heading(kiss, level, &mut out, 0);
     write(&out, heading);
-    let l = list_chunks(Lister::new(level), &mut input, &mut buffer, &mut out);
+    let l = list_chunks(Lister::new(kiss, level), &mut input, &mut buffer, &mut out);
     let end = l.put_end(&mut out);
     write(&out, end);
     qaft::DONE

@@ -1,2 +1,2 @@
-pub mod Turns
-pub mod Calls
+pub mod Rules
+pub mod Lines

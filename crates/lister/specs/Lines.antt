@@ -1,82 +1,52 @@
 -- A listing made chunk after chunk: what a call of `list` answers, and what the two lent buffers then hold. Cited by its contract. Assumes nothing.
 --
---   Lines          the lines made so far: the number of reports, the out buffer, the index behind the last line
---   lines r xs m c the lines of the chunk xs, as long as the out buffer has room for every line
---   list l xs m out   a call
-use Prim.Native.Nat.{ℕ, _+_}
-use mathlib.Core.Bool.{Bool, cond}
-use mathlib.Core.List.{List}
-use lib.Dec.{leb, ltb}
+--   gathered l xs m out   the lines of the chunk xs, as long as the out buffer has room for every line
+--   list l xs m out       a call
+use Prim.Native.Nat.{ℕ}
+use mathlib.Core.Bool.{Bool, false}
+use mathlib.Core.List.{List, [], _∷_}
+use lib.Dec.{ltb}
 use lib.ListN.{length, take}
-use lib.Seq.{sets}
-use Rattle.capture.specs.Counts.{next, freshCounts, countAll}
-use Rattle.common.specs.Refusals.{guarded}
-use Rattle.line.specs.Gather.{Gathered, stop, later, gatherAll}
+use Rattle.capture.specs.Counts.{freshCounts, countAll}
+use Rattle.common.specs.Refusals.{Refusal, guarded}
+use Rattle.deframer.specs.Scan.{view, place}
+use Rattle.deframer.specs.declared.State as declared
+use Rattle.framing.specs.Rules.{State}
+use Rattle.framing.specs.Step.{step}
+use Rattle.line.specs.Gather.{Gathered}
+use Rattle.line.specs.Texts.{Texts, textCall}
+use Rattle.lister.specs.Entries.{flagOf, sourceRules, lineOf, counted}
 use Rattle.lister.specs.declared.Listed.{Listed}
 use Rattle.lister.specs.declared.Lister.{Lister}
 use Rattle.lister.specs.declared.Progress.{Progress}
-use Rattle.listing.specs.Line.{endLine, maxLine, lineOf}
-use Rattle.qaft.specs.Answers.{done, outTooSmall}
-use Rattle.qaft_read.specs.Read.{refusals}
-use Rattle.qaft_read.specs.State.{fresh}
-use Rattle.qaft_read.specs.Step.{action}
-use Rattle.qaft_read.specs.declared.Reader.{Reader}
-use Rattle.qaft_report.specs.declared.Outcome.{Outcome}
-use Rattle.qaft_report.specs.declared.Outcome.the-variants.{Refused, Reported, UsedUp}
-use Rattle.qaft_report.specs.declared.Report.{Report}
+use Rattle.listing.specs.Line.{endLine, maxLine}
+use Rattle.qaft.specs.Answers.{done, outTooSmall, bufferTooSmall, badLevel}
+use Rattle.qaft.specs.Limits.{maxLevel, maxSegment}
 
--- nothing listed yet
-abbrev pub freshLister : (level : ℕ) → Lister
-freshLister level = record { reader = fresh level; reports = 0; counts = freshCounts }
+-- the state of reading before any flag, and nothing listed yet
+abbrev pub fresh : declared.State
+fresh = record { synced = false; pending = false; bad = false; count = 0; check = 0 }
 
--- the lines made so far; the number of reports wraps at 2^64
-pub record Lines : Type 0 where
-  pub reports : ℕ
-  pub out : List ℕ
-  pub behind : ℕ
+abbrev pub freshLister : (kiss : Bool) (level : ℕ) → Lister
+freshLister kiss level = record { kiss = kiss; level = level; state = fresh; reports = 0; counts = freshCounts }
 
--- no line yet in this out buffer
-abbrev pub noLines : Lister → (out : List ℕ) → Lines
-noLines l out = record { reports = l .reports; out = out; behind = 0 }
-
--- the line of one more report, whose data stand in the buffer m
-unfoldable pub withLine : Lines → Report → (m : List ℕ) → Lines
-withLine c p m =
-    let t = lineOf (next (c .reports)) p m in
-    record { reports = next (c .reports); out = sets (c .out) (c .behind) t; behind = c .behind + length t }
-
--- whether there is room for every line
-unfoldable pub hasRoom : Lines → Bool
-hasRoom c = leb (c .behind + maxLine) (length (c .out))
-
--- lines of a chunk: a number, which is 0 unless the reader refuses, and what was made
-pub record Lined : Type 0 where
-  pub number : ℕ
-  pub gathered : Gathered Reader Lines
-
--- the number with which a call of the reader refuses, or 0
-abbrev pub refusalOf : Outcome → ℕ
-refusalOf (Refused n) = n
-refusalOf (Reported p) = done
-refusalOf UsedUp = done
-
--- while there is room, the lines of the chunk's reports; the reader's refusals are passed on
-unfoldable pub lines : Reader → (xs m : List ℕ) → Lines → Lined
-lines r xs m c =
-    cond (hasRoom c)
-    (guarded (refusals r (length m)) (λ n. record { number = n; gathered = stop r m c })
-    (record { number = done; gathered = gatherAll withLine hasRoom action r xs m c }))
-    (record { number = done; gathered = stop r m c })
-
--- i octets of the chunk were taken before
-unfoldable pub behindOctets : (i : ℕ) → Lined → Lined
-behindOctets i d = record { number = d .number; gathered = later i (d .gathered) }
+-- while there is room for every line, the lines of the chunk's reports, numbered on
+abbrev pub gathered : Lister → (xs m out : List ℕ) → Gathered (State ℕ) (Texts ℕ)
+gathered l xs m out = textCall (lineOf (l .kiss)) counted maxLine (step (sourceRules (l .kiss) (l .level))) (view (l .state)) (l .reports) xs m out
 
 -- what the loop over the reports comes to
-abbrev pub progressOf : Lined → Progress
-progressOf d =
-    let g = d .gathered in
-    record { number = d .number; taken = g .taken; reader = g .state; reports = g .made .reports; behind = g .made .behind }
+abbrev pub progressOf : Gathered (State ℕ) (Texts ℕ) → Progress
+progressOf g = record { taken = g .taken; state = place (g .state); reports = g .made .tally; behind = g .made .behind }
+
+-- the octets that a chunk adds to what was counted, of a line with its flag
+abbrev pub later : Lister → Progress → (xs : List ℕ) → Lister
+later l p xs = record {
+  kiss = l .kiss;
+  level = l .level;
+  state = p .state;
+  reports = p .reports;
+  counts = countAll (flagOf (l .kiss)) (l .counts) (take (p .taken) xs);
+}
 
 -- a call: its answer, the reader's buffer and the out buffer after it
 pub record Call : Type 0 where
@@ -84,27 +54,24 @@ pub record Call : Type 0 where
   pub buffer : List ℕ
   pub out : List ℕ
 
-unfoldable pub callOf : Lister → (xs : List ℕ) → Lined → Call
-callOf l xs d =
-    let g = d .gathered in
-    let c = g .made in
-    record {
-      answer = record {
-        number = d .number;
-        taken = g .taken;
-        length = c .behind;
-        lister = record { reader = g .state; reports = c .reports; counts = countAll (l .counts) (take (g .taken) xs) };
-      };
-      buffer = g .buffer;
-      out = c .out;
-    }
+unfoldable pub callOf : Lister → (xs : List ℕ) → Gathered (State ℕ) (Texts ℕ) → Call
+callOf l xs g = record {
+  answer = record { number = done; taken = g .taken; length = g .made .behind; lister = later l (progressOf g) xs };
+  buffer = g .buffer;
+  out = g .made .out;
+}
 
--- the lines stand at the front of the out buffer; one without room for every line is refused
+-- a refusal with the number n: nothing is taken, and nothing changes
+unfoldable pub refusal : Lister → (m out : List ℕ) (n : ℕ) → Call
+refusal l m out n = record { answer = record { number = n; taken = 0; length = 0; lister = l }; buffer = m; out = out }
+
+-- rooms are the lengths of the buffer and of the out buffer
+unfoldable pub refusals : Lister → (room outRoom : ℕ) → List Refusal
+refusals l room outRoom = (ltb maxLevel (l .level), badLevel) ∷ (ltb outRoom maxLine, outTooSmall) ∷ (ltb room maxSegment, bufferTooSmall) ∷ []
+
+-- the lines stand at the front of the out buffer
 unfoldable pub list : Lister → (xs m out : List ℕ) → Call
-list l xs m out =
-    cond (ltb (length out) maxLine)
-    (callOf l xs (record { number = outTooSmall; gathered = stop (l .reader) m (noLines l out) }))
-    (callOf l xs (lines (l .reader) xs m (noLines l out)))
+list l xs m out = guarded (refusals l (length m) (length out)) (refusal l m out) (callOf l xs (gathered l xs m out))
 
 -- the last line, when all chunks were listed
 abbrev pub lastLine : Lister → List ℕ

@@ -1,7 +1,8 @@
 -- The pieces of the heading and of the last line, put down one after another where there is room for every one. Assumes nothing.
 use Prim.Native.Nat.{ℕ, _+_, _≤_}
+use mathlib.Core.Bool.{Bool, true, false}
 use mathlib.Core.List.{List, _++_}
-use mathlib.Core.Path.{_≡_}
+use mathlib.Core.Path.{_≡_, sym, subst}
 use native.Mathlib.Omega.{arith}
 use lib.ListN.{length, length-append}
 use Rattle.listing.specs.Line.{heading, endLine, shortLine}
@@ -11,13 +12,13 @@ use Rattle.text.proofs.Putting.{placed, placed-++, length-placed}
 use Rattle.text.proofs.Text.{length-decimal}
 use Rattle.text.specs.Text.{ascii, decimal}
 
-module _ (level : ℕ) (m m₁ m₂ m₃ : List ℕ) (i a b n : ℕ) (room : i + shortLine ≤ length m)
+module _ (kiss : Bool) (unset : kiss ≡ false) (level : ℕ) (m m₁ m₂ m₃ : List ℕ) (i a b n : ℕ) (room : i + shortLine ≤ length m)
     (e₁ : a ≡ putEnd (ascii "QAFT listing level ") m i) (d₁ : m₁ ≡ putInto (ascii "QAFT listing level ") m i)
     (e₂ : b ≡ putEnd (decimal level) m₁ a) (d₂ : m₂ ≡ putInto (decimal level) m₁ a)
     (e₃ : n ≡ putEnd (ascii "\n") m₂ b) (d₃ : m₃ ≡ putInto (ascii "\n") m₂ b) where
-  pub heading-placed : Placed m i (heading level) m₃ n
+  qaft-heading : Placed m i (heading false level) m₃ n
   unfolding heading
-  heading-placed =
+  qaft-heading =
       let few = length-decimal level in
       let p₁ = placed (ascii "QAFT listing level ") m i m₁ a (omega arith) e₁ d₁ in
       let k₁ = length-placed m i (ascii "QAFT listing level ") m₁ a p₁ in
@@ -26,9 +27,19 @@ module _ (level : ℕ) (m m₁ m₂ m₃ : List ℕ) (i a b n : ℕ) (room : i +
       let p₃ = placed (ascii "\n") m₂ b m₃ n (omega (arith, few, k₁, k₂, p₁ .behind, p₂ .behind)) e₃ d₃ in
       placed-++ _ _ (ascii "QAFT listing level ") _ _ _ _ _ p₁ (placed-++ _ _ (decimal level) _ _ _ _ _ p₂ p₃)
 
-pub length-heading : (level : ℕ) → length (heading level) ≤ shortLine
+  pub qaft-placed : Placed m i (heading kiss level) m₃ n
+  qaft-placed = subst (λ (k : Bool). Placed m i (heading k level) m₃ n) (sym unset) qaft-heading
+
+pub kiss-placed : (kiss : Bool) → kiss ≡ true → (level : ℕ) (m m′ : List ℕ) (i n : ℕ) → i + shortLine ≤ length m → n ≡ putEnd (ascii "KISS listing\n") m i → m′ ≡ putInto (ascii "KISS listing\n") m i
+    → Placed m i (heading kiss level) m′ n
 unfolding heading
-length-heading level =
+kiss-placed kiss set level m m′ i n room e d =
+    subst (λ (k : Bool). Placed m i (heading k level) m′ n) (sym set) (placed (ascii "KISS listing\n") m i m′ n (omega arith) e d)
+
+pub length-heading : (kiss : Bool) (level : ℕ) → length (heading kiss level) ≤ shortLine
+unfolding heading
+length-heading true level = omega arith
+length-heading false level =
     omega (arith, length-append (ascii "QAFT listing level ") (decimal level ++ ascii "\n"), length-append (decimal level) (ascii "\n"), length-decimal level)
 
 module _ (reports before after : ℕ) (m m₁ m₂ m₃ m₄ m₅ m₆ m₇ : List ℕ) (i a b c d e f n : ℕ) (room : i + shortLine ≤ length m)

@@ -11,56 +11,64 @@ use borrow.Author.Tests.{le-leb, lt-leb, leb-true, leb-false}
 use lib.Dec.{leb}
 use lib.ListN.{length, take, drop, length-append}
 use lib.Seq.{sets}
-use Rattle.listing.specs.Line.{name, details, reportLine, lineRoom, shortLine, textInto, textEnd, dataOf, roomOf, lineOf}
+use Rattle.listing.proofs.Entry as entries
+use Rattle.listing.specs.Line.{name, details, reportLine, lineRoom, shortLine, textInto, textEnd}
 use Rattle.listing.specs.Names.{names, nameStart, nameEnd}
+use Rattle.listing.specs.declared.Entry.{Entry}
+use Rattle.listing.specs.declared.Entry.the-variants.{Frame, Aborted, Long, Short, BadCheck, BadEscape, Skipped}
 use Rattle.octets.specs.Put.{putInto, putEnd}
-use Rattle.qaft_report.proofs.Report as reports
-use Rattle.qaft_report.specs.declared.Report.{Report}
-use Rattle.qaft_report.specs.declared.Report.the-variants.{Frame, Aborted, Long, Short, BadCheck}
 use Rattle.text.specs.Placed.{Placed}
 use Rattle.text.proofs.Putting.{placed, placed-++, length-placed}
 use Rattle.text.proofs.Text.{length-hex, length-decimal}
 use Rattle.text.specs.Text.{ascii, maxDigits, decimal, hex}
 
 -- the name of a report is the part of the text of all names
-pub name-part : (p : Report) → take (nameEnd p - nameStart p) (drop (nameStart p) names) ≡ name p
+pub name-part : (p : Entry) → take (nameEnd p - nameStart p) (drop (nameStart p) names) ≡ name p
 name-part (Frame n) = refl
 name-part Aborted = refl
 name-part Long = refl
 name-part Short = refl
 name-part BadCheck = refl
+name-part BadEscape = refl
+name-part Skipped = refl
 
 -- and so is what is put of it
-pub put-named : (p : Report) (from end r i : ℕ) (m m′ : List ℕ) → from ≡ nameStart p → end ≡ nameEnd p
+pub put-named : (p : Entry) (from end r i : ℕ) (m m′ : List ℕ) → from ≡ nameStart p → end ≡ nameEnd p
     → r ≡ putEnd (take (end - from) (drop from names)) m i → m′ ≡ putInto (take (end - from) (drop from names)) m i
     → (r ≡ putEnd (name p) m i) × (m′ ≡ putInto (name p) m i)
 put-named p from end r i m m′ a b e d =
     let part : take (end - from) (drop from names) ≡ name p = ap₂ (λ (j k : ℕ). take (k - j) (drop j names)) a b ∙ name-part p in
     (e ∙ ap (λ (t : List ℕ). putEnd t m i) part, d ∙ ap (λ (t : List ℕ). putInto t m i) part)
 
-pub name-within : (p : Report) → (nameStart p ≤ nameEnd p) × (nameEnd p ≤ 29)
+pub name-within : (p : Entry) → (nameStart p ≤ nameEnd p) × (nameEnd p ≤ 44)
 name-within (Frame n) = (omega arith, omega arith)
 name-within Aborted = (omega arith, omega arith)
 name-within Long = (omega arith, omega arith)
 name-within Short = (omega arith, omega arith)
 name-within BadCheck = (omega arith, omega arith)
+name-within BadEscape = (omega arith, omega arith)
+name-within Skipped = (omega arith, omega arith)
 
-pub length-name : (p : Report) → length (name p) ≤ 8
+pub length-name : (p : Entry) → length (name p) ≤ 8
 length-name (Frame n) = omega arith
 length-name Aborted = omega arith
 length-name Long = omega arith
 length-name Short = omega arith
 length-name BadCheck = omega arith
+length-name BadEscape = omega arith
+length-name Skipped = omega arith
 
-pub length-details : (p : Report) (d : List ℕ) → length (details p d) ≤ 2 * length d + (maxDigits + 2)
+pub length-details : (p : Entry) (d : List ℕ) → length (details p d) ≤ 2 * length d + (maxDigits + 2)
 unfolding details
 length-details (Frame n) d = omega (arith, length-append (decimal (length d)) (ascii " " ++ hex d), length-decimal (length d), length-hex d)
 length-details Aborted d = omega arith
 length-details Long d = omega arith
 length-details Short d = omega arith
 length-details BadCheck d = omega arith
+length-details BadEscape d = omega arith
+length-details Skipped d = omega arith
 
-pub length-reportLine : (k : ℕ) (p : Report) (d : List ℕ) → length (reportLine k p d) ≤ lineRoom (length d)
+pub length-reportLine : (k : ℕ) (p : Entry) (d : List ℕ) → length (reportLine k p d) ≤ lineRoom (length d)
 unfolding reportLine
 length-reportLine k p d =
     omega (
@@ -74,7 +82,7 @@ length-reportLine k p d =
     )
 
 -- the line of a report: its number, its name, what stands behind it, the newline
-module _ (k : ℕ) (p : Report) (d : List ℕ) (m m₁ m₂ : List ℕ) (i a b : ℕ) (room : i + lineRoom (length d) ≤ length m)
+module _ (k : ℕ) (p : Entry) (d : List ℕ) (m m₁ m₂ : List ℕ) (i a b : ℕ) (room : i + lineRoom (length d) ≤ length m)
     (e₁ : a ≡ putEnd (decimal k) m i) (d₁ : m₁ ≡ putInto (decimal k) m i)
     (e₂ : b ≡ putEnd (name p) m₁ a) (d₂ : m₂ ≡ putInto (name p) m₁ a) where
   numbered : Placed m i (decimal k) m₁ a
@@ -105,7 +113,7 @@ module _ (k : ℕ) (p : Report) (d : List ℕ) (m m₁ m₂ : List ℕ) (i a b :
         placed-++ _ _ (decimal k) _ _ _ _ _ numbered (placed-++ _ _ (name p) _ _ _ _ _ named (placed-++ _ _ (details p d) _ _ _ _ _ q ended))
 
 -- behind a frame's name: its length and its data
-module _ (p : Report) (n : ℕ) (told : p ≡ Frame n) (d m m₁ m₂ m₃ m₄ : List ℕ) (i a b c r : ℕ) (room : i + (2 * length d + (maxDigits + 2)) ≤ length m)
+module _ (p : Entry) (n : ℕ) (told : p ≡ Frame n) (d m m₁ m₂ m₃ m₄ : List ℕ) (i a b c r : ℕ) (room : i + (2 * length d + (maxDigits + 2)) ≤ length m)
     (e₁ : a ≡ putEnd (ascii " ") m i) (d₁ : m₁ ≡ putInto (ascii " ") m i)
     (e₂ : b ≡ putEnd (decimal (length d)) m₁ a) (d₂ : m₂ ≡ putInto (decimal (length d)) m₁ a)
     (e₃ : c ≡ putEnd (ascii " ") m₂ b) (d₃ : m₃ ≡ putInto (ascii " ") m₂ b)
@@ -124,7 +132,7 @@ module _ (p : Report) (n : ℕ) (told : p ≡ Frame n) (d m m₁ m₂ m₃ m₄ 
       placed-++ _ _ (ascii " ") _ _ _ _ _ p₁ (placed-++ _ _ (decimal (length d)) _ _ _ _ _ p₂ (placed-++ _ _ (ascii " ") _ _ _ _ _ p₃ p₄))
 
   pub details-placed : Placed m i (details p d) m₄ r
-  details-placed = subst (λ (p : Report). Placed m i (details p d) m₄ r) (sym told) frame-placed
+  details-placed = subst (λ (p : Entry). Placed m i (details p d) m₄ r) (sym told) frame-placed
 
 -- room from the index i on, told by what is left behind it
 pub room-left : (i n : ℕ) → i ≤ n → leb shortLine (n - i) ≡ leb (i + shortLine) n
@@ -148,20 +156,16 @@ module _ (n : ℕ) (t out : List ℕ) (i : ℕ) where
     pub text-placed : (r : ℕ) (out′ : List ℕ) → Placed out i t out′ r → (r ≡ textEnd n t (length out) i) × (out′ ≡ textInto n t out i)
     text-placed r out′ p = (p .behind ∙ sym (text-room .0), p .octets ∙ sym (text-room .1))
 
--- the line of a report whose data d were shown
-pub report-placed : (k : ℕ) (p : Report) (m d : List ℕ) → d ≡ dataOf p m → (out : List ℕ) (i : ℕ) → i + roomOf p m ≤ length out → (r : ℕ) (out′ : List ℕ)
-    → Placed out i (reportLine k p d) out′ r → (r ≡ textEnd (roomOf p m) (lineOf k p m) (length out) i) × (out′ ≡ textInto (roomOf p m) (lineOf k p m) out i)
-report-placed k p m d e out i h r out′ q =
-    text-placed (roomOf p m) (lineOf k p m) out i h r out′ (subst (λ (d : List ℕ). Placed out i (reportLine k p d) out′ r) e q)
-
 -- a report that is no frame has nothing behind its name
-pub no-details : (p : Report) (d : List ℕ) → OneOf (1 ∷ 2 ∷ 3 ∷ 4 ∷ []) (tagOf reports.the-type p) → details p d ≡ []
+pub no-details : (p : Entry) (d : List ℕ) → OneOf (1 ∷ 2 ∷ 3 ∷ 4 ∷ 5 ∷ 6 ∷ []) (tagOf entries.the-type p) → details p d ≡ []
 unfolding details
-no-details (Frame n) d k = absurd (miss (1 ∷ 2 ∷ 3 ∷ 4 ∷ []) 0 tt k)
+no-details (Frame n) d k = absurd (miss (1 ∷ 2 ∷ 3 ∷ 4 ∷ 5 ∷ 6 ∷ []) 0 tt k)
 no-details Aborted d k = refl
 no-details Long d k = refl
 no-details Short d k = refl
 no-details BadCheck d k = refl
+no-details BadEscape d k = refl
+no-details Skipped d k = refl
 
 -- nothing put is the empty text
 pub placed-none : (m : List ℕ) (i : ℕ) (t : List ℕ) → t ≡ [] → Placed m i t m i

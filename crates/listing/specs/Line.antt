@@ -1,42 +1,45 @@
 -- The lines of a listing. Cited by the functions that put them into a lent buffer, and by the text of a whole listing. Assumes nothing.
 --
---   heading level          the first line
+--   heading kiss level     the first line
 --   reportLine k p d       the line of report number k
 --   endLine n before after the last line
 use Prim.Native.Nat.{ℕ, _+_, _*_}
-use mathlib.Core.Bool.{cond}
+use mathlib.Core.Bool.{Bool, cond}
 use mathlib.Core.List.{List, [], _++_}
 use lib.Dec.{leb}
 use lib.ListN.{length}
 use lib.Seq.{sets}
+use Rattle.listing.specs.declared.Entry.{Entry}
+use Rattle.listing.specs.declared.Entry.the-variants.{Frame, Aborted, Long, Short, BadCheck, BadEscape, Skipped}
 use Rattle.qaft.specs.Limits.{maxData}
-use Rattle.qaft_report.specs.Answer.{reportLength, shown}
-use Rattle.qaft_report.specs.declared.Report.{Report}
-use Rattle.qaft_report.specs.declared.Report.the-variants.{Frame, Aborted, Long, Short, BadCheck}
 use Rattle.text.specs.Text.{ascii, decimal, maxDigits, hex}
 
--- "QAFT listing level L"
-unfoldable pub heading : (level : ℕ) → List ℕ
-heading level = ascii "QAFT listing level " ++ (decimal level ++ ascii "\n")
+-- "QAFT listing level L", or "KISS listing"
+unfoldable pub heading : (kiss : Bool) (level : ℕ) → List ℕ
+heading kiss level = cond kiss (ascii "KISS listing\n") (ascii "QAFT listing level " ++ (decimal level ++ ascii "\n"))
 
 -- the name of a report, a space before it
-abbrev pub name : Report → List ℕ
+abbrev pub name : Entry → List ℕ
 name (Frame n) = ascii " frame"
 name Aborted = ascii " aborted"
 name Long = ascii " long"
 name Short = ascii " short"
 name BadCheck = ascii " bad"
+name BadEscape = ascii " escape"
+name Skipped = ascii " skipped"
 
 -- behind the name of a frame: " N HEX", N the number of its data octets d
-unfoldable pub details : Report → (d : List ℕ) → List ℕ
+unfoldable pub details : Entry → (d : List ℕ) → List ℕ
 details (Frame n) d = ascii " " ++ (decimal (length d) ++ (ascii " " ++ hex d))
 details Aborted d = []
 details Long d = []
 details Short d = []
 details BadCheck d = []
+details BadEscape d = []
+details Skipped d = []
 
 -- the line of report number k: "1 frame 2 4041"
-unfoldable pub reportLine : (k : ℕ) → Report → (d : List ℕ) → List ℕ
+unfoldable pub reportLine : (k : ℕ) → Entry → (d : List ℕ) → List ℕ
 reportLine k p d = decimal k ++ (name p ++ (details p d ++ ascii "\n"))
 
 -- "end R before B after A": the reports, the raw octets before the first flag and after the last
@@ -62,14 +65,3 @@ textInto n t out i = cond (leb (i + n) (length out)) (sets out i t) out
 
 unfoldable pub textEnd : (n : ℕ) (t : List ℕ) (room i : ℕ) → ℕ
 textEnd n t room i = cond (leb (i + n) room) (i + length t) i
-
--- the data that a report shows of the buffer m
-abbrev pub dataOf : Report → (m : List ℕ) → List ℕ
-dataOf p m = shown m (reportLength p)
-
--- the room that is asked for the line of a report, whose data stand in the buffer m, and the line
-abbrev pub roomOf : Report → (m : List ℕ) → ℕ
-roomOf p m = lineRoom (length (dataOf p m))
-
-abbrev pub lineOf : (k : ℕ) → Report → (m : List ℕ) → List ℕ
-lineOf k p m = reportLine k p (dataOf p m)

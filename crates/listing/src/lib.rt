@@ -8,8 +8,18 @@ ghost use Rattle.octets.specs.Put.{putEnd, putInto};
 ghost use Rattle.text.specs.Placed.{Placed};
 ghost use Rattle.text.specs.Text.{maxDigits};
 ghost use Rattle.listing.specs.Names.{nameStart, nameEnd};
-ghost use Rattle.listing.specs.Line.{heading, name, details, reportLine, endLine, lineRoom, shortLine, textInto, textEnd, roomOf, lineOf};
-use qaft_report::Report;
+ghost use Rattle.listing.specs.Line.{heading, name, details, reportLine, endLine, lineRoom, shortLine, textInto, textEnd};
+
+// What a listing calls a report, of either framing; a frame with the number of its data octets.
+pub enum Entry {
+    Frame(usize),
+    Aborted,
+    Long,
+    Short,
+    BadCheck,
+    BadEscape,
+    Skipped,
+}
 
 // The line of a report has room here but for its data, which take two octets each.
 const LINE_ROOM: usize = 51;
@@ -22,22 +32,21 @@ const SHORT_LINE: usize = 80;
 
 // Puts the first line at index `at` of `out`; the index behind it. Where `out` has no room for such a line it stays as it is,
 // and so does the index.
-pub fn put_heading(level: u8, out: &mut [u8], at: usize) -> usize
-    ensures { λ r. ⌜ r ≡ textEnd shortLine (heading level) (length (now (out .entry))) at ⌝ }
-    ensures { λ _. ⌜ now (out .exit) ≡ textInto shortLine (heading level) (now (out .entry)) at ⌝ }
+pub fn put_heading(kiss: bool, level: u8, out: &mut [u8], at: usize) -> usize
+    ensures { λ r. ⌜ r ≡ textEnd shortLine (heading kiss level) (length (now (out .entry))) at ⌝ }
+    ensures { λ _. ⌜ now (out .exit) ≡ textInto shortLine (heading kiss level) (now (out .entry)) at ⌝ }
 {
     if has_room(out.len(), at) {
-        return heading_pieces(level, out, at);
+        return heading_pieces(kiss, level, out, at);
     }
     at
 }
 
-// Puts the line of report number `number`, likewise. `buffer` is the reader's, which holds the data of a frame.
-pub fn put_report(number: u64, report: Report, buffer: &[u8], out: &mut [u8], at: usize) -> usize
-    ensures { λ r. ⌜ r ≡ textEnd (roomOf report (now (buffer .entry))) (lineOf number report (now (buffer .entry))) (length (now (out .entry))) at ⌝ }
-    ensures { λ _. ⌜ now (out .exit) ≡ textInto (roomOf report (now (buffer .entry))) (lineOf number report (now (buffer .entry))) (now (out .entry)) at ⌝ }
+// Puts the line of report number `number`, likewise. `octets` are the data of a frame.
+pub fn put_report(number: u64, entry: Entry, octets: &[u8], out: &mut [u8], at: usize) -> usize
+    ensures { λ r. ⌜ r ≡ textEnd (lineRoom (length (now (octets .entry)))) (reportLine number entry (now (octets .entry))) (length (now (out .entry))) at ⌝ }
+    ensures { λ _. ⌜ now (out .exit) ≡ textInto (lineRoom (length (now (octets .entry)))) (reportLine number entry (now (octets .entry))) (now (out .entry)) at ⌝ }
 {
-    let octets = report.frame_data(buffer);
     if out.len() < at {
         return at;
     }
@@ -48,7 +57,7 @@ pub fn put_report(number: u64, report: Report, buffer: &[u8], out: &mut [u8], at
     if (room - LINE_ROOM) / 2 < octets.len() {
         return at;
     }
-    report_pieces(number, report, octets, out, at)
+    report_pieces(number, entry, octets, out, at)
 }
 
 // Puts the last line, likewise.
@@ -72,10 +81,13 @@ fn has_room(length: usize, at: usize) -> bool
     SHORT_LINE <= length - at
 }
 
-fn heading_pieces(level: u8, out: &mut [u8], at: usize) -> usize
+fn heading_pieces(kiss: bool, level: u8, out: &mut [u8], at: usize) -> usize
     requires { ⌜ at + shortLine ≤ length (now out) ⌝ }
-    ensures { λ r. ⌜ Placed (now (out .entry)) at (heading level) (now (out .exit)) r ⌝ }
+    ensures { λ r. ⌜ Placed (now (out .entry)) at (heading kiss level) (now (out .exit)) r ⌝ }
 {
+    if kiss {
+        return octets::put(b"KISS listing\n", out, at);
+    }
     let a = octets::put(b"QAFT listing level ", out, at);
     let b = text::put_decimal(level as u64, out, a);
     octets::put(b"\n", out, b)
@@ -94,25 +106,25 @@ fn end_pieces(reports: u64, before: u64, after: u64, out: &mut [u8], at: usize) 
     octets::put(b"\n", out, f)
 }
 
-fn report_pieces(number: u64, report: Report, octets: &[u8], out: &mut [u8], at: usize) -> usize
+fn report_pieces(number: u64, entry: Entry, octets: &[u8], out: &mut [u8], at: usize) -> usize
     requires { ⌜ at + lineRoom (length (now octets)) ≤ length (now out) ⌝ }
-    ensures { λ r. ⌜ Placed (now (out .entry)) at (reportLine number report (now (octets .entry))) (now (out .exit)) r ⌝ }
+    ensures { λ r. ⌜ Placed (now (out .entry)) at (reportLine number entry (now (octets .entry))) (now (out .exit)) r ⌝ }
 {
     let a = text::put_decimal(number, out, at);
-    let b = put_name(report, out, a);
-    let c = put_details(report, octets, out, b);
+    let b = put_name(entry, out, a);
+    let c = put_details(entry, octets, out, b);
     octets::put(b"\n", out, c)
 }
 
 // The names of the reports are one text, of which one is put.
-fn put_name(report: Report, out: &mut [u8], at: usize) -> usize
-    ensures { λ r. ⌜ r ≡ putEnd (name report) (now (out .entry)) at ⌝ }
-    ensures { λ _. ⌜ now (out .exit) ≡ putInto (name report) (now (out .entry)) at ⌝ }
+fn put_name(entry: Entry, out: &mut [u8], at: usize) -> usize
+    ensures { λ r. ⌜ r ≡ putEnd (name entry) (now (out .entry)) at ⌝ }
+    ensures { λ _. ⌜ now (out .exit) ≡ putInto (name entry) (now (out .entry)) at ⌝ }
 {
     put_part(
-        b" frame aborted long short bad",
-        name_start(report),
-        name_end(report),
+        b" frame aborted long short bad escape skipped",
+        name_start(entry),
+        name_end(entry),
         out,
         at,
     )
@@ -127,36 +139,40 @@ fn put_part(octets: &[u8], from: usize, end: usize, out: &mut [u8], at: usize) -
     octets::put(&octets[from..end], out, at)
 }
 
-fn name_start(report: Report) -> usize
-    ensures { λ r. ⌜ r ≡ nameStart report ⌝ }
+fn name_start(entry: Entry) -> usize
+    ensures { λ r. ⌜ r ≡ nameStart entry ⌝ }
 {
-    match report {
-        Report::Frame(_) => 0,
-        Report::Aborted => 6,
-        Report::Long => 14,
-        Report::Short => 19,
-        Report::BadCheck => 25,
+    match entry {
+        Entry::Frame(_) => 0,
+        Entry::Aborted => 6,
+        Entry::Long => 14,
+        Entry::Short => 19,
+        Entry::BadCheck => 25,
+        Entry::BadEscape => 29,
+        Entry::Skipped => 36,
     }
 }
 
-fn name_end(report: Report) -> usize
-    ensures { λ r. ⌜ r ≡ nameEnd report ⌝ }
+fn name_end(entry: Entry) -> usize
+    ensures { λ r. ⌜ r ≡ nameEnd entry ⌝ }
 {
-    match report {
-        Report::Frame(_) => 6,
-        Report::Aborted => 14,
-        Report::Long => 19,
-        Report::Short => 25,
-        Report::BadCheck => 29,
+    match entry {
+        Entry::Frame(_) => 6,
+        Entry::Aborted => 14,
+        Entry::Long => 19,
+        Entry::Short => 25,
+        Entry::BadCheck => 29,
+        Entry::BadEscape => 36,
+        Entry::Skipped => 44,
     }
 }
 
 // Behind a frame's name its length and its data.
-fn put_details(report: Report, octets: &[u8], out: &mut [u8], at: usize) -> usize
+fn put_details(entry: Entry, octets: &[u8], out: &mut [u8], at: usize) -> usize
     requires { ⌜ at + (2 * length (now octets) + (maxDigits + 2)) ≤ length (now out) ⌝ }
-    ensures { λ r. ⌜ Placed (now (out .entry)) at (details report (now (octets .entry))) (now (out .exit)) r ⌝ }
+    ensures { λ r. ⌜ Placed (now (out .entry)) at (details entry (now (octets .entry))) (now (out .exit)) r ⌝ }
 {
-    let Report::Frame(_) = report else {
+    let Entry::Frame(_) = entry else {
         return at;
     };
     let a = octets::put(b" ", out, at);

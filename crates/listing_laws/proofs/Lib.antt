@@ -1,5 +1,4 @@
+pub mod Calls
 pub mod Events
-pub mod Call
-pub mod Chunks
 pub mod Theorems
 pub mod Worked

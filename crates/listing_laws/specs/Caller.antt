@@ -1,8 +1,9 @@
 -- A caller of the lister, who writes out what stands at the front of the out buffer after each call. Cited by the theorem. Assumes nothing.
 --
 --   listChunks l xss m out       chunk after chunk; the rest of a chunk goes into the next call
---   listed level xss m out       all that is written, from the heading to the last line
+--   listed kiss level xss m out  all that is written, from the heading to the last line
 use Prim.Native.Nat.{ℕ, zero, suc}
+use mathlib.Core.Bool.{Bool}
 use mathlib.Core.List.{List, [], _∷_, _++_}
 use lib.ListN.{length, take, drop}
 use Rattle.lister.specs.Lines.{freshLister, list, lastLine}
@@ -43,7 +44,7 @@ listChunks l (xs ∷ xss) m out =
 abbrev pub shortText : (t out : List ℕ) → List ℕ
 shortText t out = take (textEnd shortLine t (length out) 0) (textInto shortLine t out 0)
 
-unfoldable pub listed : (level : ℕ) → List (List ℕ) → (m out : List ℕ) → List ℕ
-listed level xss m out =
-    let w = listChunks (freshLister level) xss m (textInto shortLine (heading level) out 0) in
-    shortText (heading level) out ++ (w .text ++ shortText (lastLine (w .lister)) (w .out))
+unfoldable pub listed : (kiss : Bool) (level : ℕ) → List (List ℕ) → (m out : List ℕ) → List ℕ
+listed kiss level xss m out =
+    let w = listChunks (freshLister kiss level) xss m (textInto shortLine (heading kiss level) out 0) in
+    shortText (heading kiss level) out ++ (w .text ++ shortText (lastLine (w .lister)) (w .out))

@@ -6,7 +6,6 @@ use super::process::{by_datagrams, by_pipe, examples, program, run, Run};
 use super::tally::{hex, Tally};
 use crate::archive;
 use second::kiss::{self, Converted};
-use second::qaft;
 use second::rng::Rng;
 use std::fs::File;
 use std::io::{self, Read, Write};
@@ -15,7 +14,7 @@ use std::os::unix::net::UnixStream;
 use std::time::Duration;
 
 pub const FROM_QAFT: [u8; 5] = listing::NUMBERS;
-pub const TO_QAFT: [u8; 5] = [10, 60, 61, 62, 63];
+pub const TO_QAFT: [u8; 5] = listing::KISS_NUMBERS;
 
 /// How many portions are sent one by one, and how long a program may take over each.
 const PORTIONS: usize = 50;
@@ -38,10 +37,7 @@ const OUT_OF_QAFT: Way = Way {
     framing: QAFT,
     ours: kiss::from_qaft,
     archive: archive::qaft_to_kiss,
-    numbers: |capture| {
-        let reports = qaft::read_line(capture).reports;
-        reports.iter().map(listing::number).collect()
-    },
+    numbers: listing::qaft_numbers,
 };
 
 const INTO_QAFT: Way = Way {
@@ -49,21 +45,8 @@ const INTO_QAFT: Way = Way {
     framing: KISS,
     ours: kiss::to_qaft,
     archive: archive::kiss_to_qaft,
-    numbers: |capture| {
-        let reports = kiss::read_line(capture).reports;
-        reports.iter().map(kiss_number).collect()
-    },
+    numbers: listing::kiss_numbers,
 };
-
-fn kiss_number(report: &kiss::Report) -> u8 {
-    match report {
-        kiss::Report::Frame(_) => 10,
-        kiss::Report::BadEscape => 60,
-        kiss::Report::Short => 61,
-        kiss::Report::Long => 62,
-        kiss::Report::Skipped => 63,
-    }
-}
 
 /// What a program has to write of a capture, by a function for whole captures.
 fn expected(convert: Convert, level: u8, capture: &[u8]) -> Run {

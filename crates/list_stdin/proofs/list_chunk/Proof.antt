@@ -6,7 +6,7 @@ use borrow.Author.Needs.{needs}
 use lib.ListN.{length}
 use Rattle.list_stdin.proofs.list_chunk.Statement.{statement}
 use Rattle.list_stdin.proofs.list_chunk.Tie as tie
-use Rattle.lister.proofs.Calls.{list-taken-rest}
+use Rattle.lister.proofs.Lines.{list-taken-rest}
 
 abbrev Inv-loop : tie.InvT-loop
 Inv-loop chunk buffer₀ out₀ s₀ i₀ buffer out s i = (i ≤ length chunk) × (length buffer ≡ length buffer₀) × (length out ≡ length out₀)

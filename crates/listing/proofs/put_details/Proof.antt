@@ -8,7 +8,7 @@ enum-told : tie.Need-enum-told
 enum-told c = search needs
 
 returns : tie.Need-returns
-returns c = placed-none _ _ _ (no-details (c .before .before .before .args .report) (c .before .before .before .args .octets .now) (c .match .keys2))
+returns c = placed-none _ _ _ (no-details (c .before .before .before .args .entry) (c .before .before .before .args .octets .now) (c .match .keys2))
 
 slice-aggregate-put : tie.Need-slice-aggregate-put
 slice-aggregate-put c = search needs
@@ -39,7 +39,7 @@ returns-2 c =
     let e₂ = c .before .before .before .before .before .before .before .before .before .before .before .put-decimal .ensures in
     let e₃ = c .before .before .before .before .before .before .put2 .ensures in
     let e₄ = c .before .before .put-hex .ensures in
-    details-placed (s .args .report) _ (f .1) (s .args .octets .now) _ _ _ _ _ _ _ _ _ _ (s .pre) (e₁ .0) (e₁ .1) (e₂ .0) (e₂ .1) (e₃ .0) (e₃ .1) (e₄ .0) (e₄ .1)
+    details-placed (s .args .entry) _ (f .1) (s .args .octets .now) _ _ _ _ _ _ _ _ _ _ (s .pre) (e₁ .0) (e₁ .1) (e₂ .0) (e₂ .1) (e₃ .0) (e₃ .1) (e₄ .0) (e₄ .1)
 
 pub put-details-spec : {M : Type 1} → statement M
 put-details-spec =

@@ -16,7 +16,7 @@ name-end-requires c κs = search needs
 
 put-part-requires : tie.Need-put-part-requires
 put-part-requires c κs =
-    let w = name-within (c .before .before .before .before .before .args .report) in
+    let w = name-within (c .before .before .before .before .before .args .entry) in
     (omega (arith, w .0, c .before .name-end .ensures, c .before .before .name-start .ensures), omega (arith, w .1, c .before .name-end .ensures))
 
 same-length : tie.Need-same-length
@@ -25,7 +25,7 @@ same-length c = search needs
 returns : tie.Need-returns
 returns c =
     let e = c .before .before .put-part .ensures in
-    put-named (c .before .before .before .before .before .before .before .before .args .report) _ _ _ _ _ _ (c .before .before .before .before .before .name-start .ensures) (c .before .before .before .before .name-end .ensures) (e .0) (e .1)
+    put-named (c .before .before .before .before .before .before .before .before .args .entry) _ _ _ _ _ _ (c .before .before .before .before .before .name-start .ensures) (c .before .before .before .before .name-end .ensures) (e .0) (e .1)
 
 pub put-name-spec : {M : Type 1} → statement M
 put-name-spec =

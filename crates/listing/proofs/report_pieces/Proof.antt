@@ -16,7 +16,7 @@ put-details-requires c κs =
     let s = c .before .before .before .before .before .before .before .before .before .before .before in
     let e₁ = c .before .before .before .before .before .before .before .put-decimal .ensures in
     let e₂ = c .before .before .before .put-name .ensures in
-    omega (arith, details-room (s .args .number) (s .args .report) (s .args .octets .now) _ _ _ _ _ _ (s .pre) (e₁ .0) (e₁ .1) (e₂ .0) (e₂ .1))
+    omega (arith, details-room (s .args .number) (s .args .entry) (s .args .octets .now) _ _ _ _ _ _ (s .pre) (e₁ .0) (e₁ .1) (e₂ .0) (e₂ .1))
 
 slice-aggregate-put : tie.Need-slice-aggregate-put
 slice-aggregate-put c = search needs
@@ -33,7 +33,7 @@ returns c =
     let e₁ = c .before .before .before .before .before .before .before .before .before .before .before .before .before .before .before .put-decimal .ensures in
     let e₂ = c .before .before .before .before .before .before .before .before .before .before .before .put-name .ensures in
     let e₄ = c .before .before .put .ensures in
-    line-placed (s .args .number) (s .args .report) (s .args .octets .now) _ _ _ _ _ _ (s .pre) (e₁ .0) (e₁ .1) (e₂ .0) (e₂ .1) _ _ _ _ (c .before .before .before .before .before .before .before .put-details .ensures) (e₄ .0) (e₄ .1)
+    line-placed (s .args .number) (s .args .entry) (s .args .octets .now) _ _ _ _ _ _ (s .pre) (e₁ .0) (e₁ .1) (e₂ .0) (e₂ .1) _ _ _ _ (c .before .before .before .before .before .before .before .put-details .ensures) (e₄ .0) (e₄ .1)
 
 pub report-pieces-spec : {M : Type 1} → statement M
 report-pieces-spec =

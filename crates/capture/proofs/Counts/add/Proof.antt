@@ -11,10 +11,10 @@ use Rattle.capture.specs.Counts.{countAll}
 use Rattle.capture.specs.declared.Counts.{Counts}
 
 abbrev Inv-loop : tie.InvT-loop
-Inv-loop chunk c₀ i₀ c i = (i ≤ length chunk) × (countAll c (drop i chunk) ≡ countAll c₀ chunk)
+Inv-loop flag chunk c₀ i₀ c i = (i ≤ length chunk) × (countAll flag c (drop i chunk) ≡ countAll flag c₀ chunk)
 
 abbrev μ-loop : tie.MeasureT-loop
-μ-loop chunk c₀ i₀ c i = length chunk - i
+μ-loop flag chunk c₀ i₀ c i = length chunk - i
 
 loop-holds : tie.Need-loop-holds Inv-loop μ-loop
 loop-holds c = (omega arith, refl)
@@ -35,13 +35,13 @@ loop-again : tie.Need-loop-again Inv-loop μ-loop
 loop-again c =
     let s = c .before .before .before .before .before .args in
     let l = c .before .before .before .loop in
-    (omega arith, ap (λ (n : Counts). countAll n (drop (l .i + 1) (s .chunk .now))) (c .add-octet .ensures) ∙ sym (countAll-next (l .c) (s .chunk .now) (l .i) (c .before .before .loop-test .taken)) ∙ l .inv .1)
+    (omega arith, ap (λ (n : Counts). countAll (s .flag) n (drop (l .i + 1) (s .chunk .now))) (c .add-octet .ensures) ∙ sym (countAll-next (s .flag) (l .c) (s .chunk .now) (l .i) (c .before .before .loop-test .taken)) ∙ l .inv .1)
 
 returns : tie.Need-returns Inv-loop μ-loop
 returns c =
     let s = c .before .before .before .args in
     let l = c .before .loop in
-    sym (countAll-end (l .c) (s .chunk .now) (l .i) (c .loop-test .left)) ∙ l .inv .1
+    sym (countAll-end (s .flag) (l .c) (s .chunk .now) (l .i) (c .loop-test .left)) ∙ l .inv .1
 
 pub add-spec : {M : Type 1} → statement M
 add-spec =
