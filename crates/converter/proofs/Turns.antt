@@ -2,7 +2,7 @@
 use Prim.Native.Nat.{ℕ, _+_, _-_, _≤_}
 use mathlib.Core.Bool.{Bool, true, false}
 use mathlib.Core.List.{List, _++_}
-use mathlib.Core.Path.{_≡_, refl, sym, ap, ap₂, _∙_, subst}
+use mathlib.Core.Path.{_≡_, refl, sym, ap, _∙_, subst}
 use native.Mathlib.Omega.{arith}
 use lib.ListN.{length, take, drop}
 use lib.Seq.{sets, length-sets}
@@ -12,14 +12,12 @@ use Rattle.converter.proofs.Rules.{rule-rules, Within, verdict-within}
 use Rattle.converter.proofs.Writing.{text-fits, text-by}
 use Rattle.converter.specs.Convert.{reportText, counted, later, callOf}
 use Rattle.converter.specs.Gist.{sourceRules, ruleOf, gistOf, gistLength, textOf, textBy}
-use Rattle.converter.specs.declared.Converted.{Converted}
 use Rattle.converter.specs.declared.Converter.{Converter}
 use Rattle.converter.specs.declared.Gist.{Gist}
 use Rattle.converter.specs.declared.Gist.the-variants.{Frame, Skipped, Other}
 use Rattle.converter.specs.declared.Tally.{Tally}
 use Rattle.deframer.proofs.Turns as turns
-use Rattle.deframer.specs.Scan.{view, opened, scanned}
-use Rattle.deframer.specs.declared.Scanned.{Scanned}
+use Rattle.deframer.specs.Scan.{view}
 use Rattle.deframer.specs.declared.State as declared
 use Rattle.framing.specs.Rules.{State}
 use Rattle.line.specs.Gather.{Gathered}

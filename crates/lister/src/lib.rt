@@ -6,7 +6,6 @@ ghost use mathlib.Core.Path.{_≡_};
 ghost use Prim.Native.Nat.{_+_, _≤_};
 ghost use lib.ListN.{length};
 ghost use lib.Seq.{sets};
-ghost use Rattle.capture.specs.Counts.{next};
 ghost use Rattle.qaft.specs.Limits.{maxData, maxSegment};
 ghost use Rattle.listing.specs.Line.{maxLine, shortLine, textInto, textEnd};
 ghost use Rattle.lister.specs.Entries.{flagOf, dataFrom, entryLength, ruleOf, entryOf, lineOf};

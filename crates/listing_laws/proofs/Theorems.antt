@@ -23,7 +23,7 @@ use Rattle.kiss_laws.proofs.Rules as kissLaws
 use Rattle.kiss_rules.specs.Rules as kissRules
 use Rattle.line.proofs.Texts.{Makes, chunks-make, front-text}
 use Rattle.line.proofs.Trace.{trace-events}
-use Rattle.line.specs.Texts.{tallyOf, textChunks}
+use Rattle.line.specs.Texts.{textChunks}
 use Rattle.line.specs.Texts as texting
 use Rattle.line.specs.Trace.{Event, trace}
 use Rattle.lister.proofs.Rules.{lawful, qaft-length, kiss-length}
@@ -34,7 +34,7 @@ use Rattle.listing.proofs.Ends.{length-heading, length-endLine}
 use Rattle.listing.proofs.Line.{text-room}
 use Rattle.listing.specs.Line.{heading, endLine, maxLine, shortLine, textInto}
 use Rattle.listing.specs.declared.Entry.{Entry}
-use Rattle.listing_laws.proofs.Calls.{cap-is, lines-short, listerAt, retold, chunks-is}
+use Rattle.listing_laws.proofs.Calls.{cap-is, lines-short, retold, chunks-is}
 use Rattle.listing_laws.proofs.Events.{lines-shown, counted-all, length-shown, lines-told, length-told}
 use Rattle.listing_laws.specs.Caller.{Written, listChunks, shortText, listed}
 use Rattle.listing_laws.specs.Listing.{linesFrom, linesOf, qaftListing, kissListing, listingOf}

@@ -1,4 +1,3 @@
 pub mod Rules
 pub mod Reader
-pub mod Lengths
 pub mod Theorems

@@ -53,10 +53,6 @@ action-keeps r x m h =
     let l = r .level in
     octet-keeps (place l) (step (rules l)) action (commutes l) (framing.Fit (rules l)) Fit (fit-place l (h .level)) (view r) x m (step-keeps (rules l) (lawful l) (view r) x m (fit-view r m h))
 
-pub fresh-fit : (level : ℕ) (m : List ℕ) → level ≤ maxLevel → maxSegment ≤ length m → Fit (fresh level) m
-unfolding malformed
-fresh-fit level m h k = record { level = h; room = k; formed = refl }
-
 -- ---- a call as the generic caller sees it
 pub reportOf-outcomeOf : (o : Option Report) → reportOf (outcomeOf o) ≡ o
 unfolding reportOf outcomeOf

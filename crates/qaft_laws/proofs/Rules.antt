@@ -60,10 +60,6 @@ verdict-shows d b n s =
     verdict-ind (λ (p : Report). 0 < reportLength p → (0 + reportLength p ≤ n) × (n ≤ maxSegment)) d b n s
     (λ p e h. absurd (omega (arith, no-frame p e, h))) (λ _ k h. (omega arith, k))
 
--- and at most 2,560 of them
-pub verdict-fits : (d b : Bool) (n s : ℕ) → reportLength (verdict d b n s) ≤ maxData
-verdict-fits d b n s = verdict-ind (λ (p : Report). reportLength p ≤ maxData) d b n s (λ p e. omega (arith, no-frame p e)) (λ _ k. omega arith)
-
 module _ (level : ℕ) where
   pub lawful : Lawful (rules level)
   lawful = record { shows-stored = verdict-shows; skips-no-flag = λ x e. cc; blank-isBlank = refl }

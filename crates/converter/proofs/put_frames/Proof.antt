@@ -1,6 +1,5 @@
 -- `converter::put_frames` meets its contract. The loop's invariant: what is left of the chunk gives what the whole gives, i octets on. Assumes nothing.
-use Prim.Native.Nat.{_+_, _-_, _≤_, _<_}
-use mathlib.Core.Bool.{true}
+use Prim.Native.Nat.{_+_, _-_, _≤_}
 use mathlib.Core.Path.{_≡_, refl, sym, ap, _∙_, subst}
 use native.Mathlib.Omega.{arith}
 use borrow.Author.Needs.{needs}
@@ -12,12 +11,10 @@ use Rattle.converter.proofs.put_frames.Statement.{statement}
 use Rattle.converter.proofs.put_frames.Tie as tie
 use Rattle.converter.specs.Convert.{reportText, counted, gathered}
 use Rattle.converter.specs.Gist.{sourceRules, ruleOf}
-use Rattle.converter.specs.declared.Converter.{Converter}
 use Rattle.deframer.proofs.Turns.{Turn, start-inv, turn-full, turn-within, turn-ends, turn-takes, turn-goes}
 use Rattle.deframer.specs.Scan.{opened, scanned}
 use Rattle.deframer.specs.declared.Rule.{Rule}
 use Rattle.line.specs.Gather.{later}
-use Rattle.qaft.specs.Answers.{done}
 use Rattle.qaft.specs.Limits.{maxSegment, maxFrame}
 
 abbrev Inv-loop : tie.InvT-loop

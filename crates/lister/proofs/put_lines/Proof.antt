@@ -5,13 +5,12 @@ use native.Mathlib.Omega.{arith}
 use borrow.Author.Needs.{needs}
 use lib.ListN.{length, take, drop}
 use lib.Seq.{length-sets}
-use Rattle.deframer.proofs.Turns.{Turn, textsAt, onwards, start-inv, turn-full, turn-within, turn-ends, turn-takes, turn-goes}
+use Rattle.deframer.proofs.Turns.{Turn, onwards, start-inv, turn-full, turn-within, turn-ends, turn-takes, turn-goes}
 use Rattle.deframer.specs.Scan.{opened, scanned}
 use Rattle.deframer.specs.declared.Rule.{Rule}
 use Rattle.framing.specs.Rules.{State}
 use Rattle.line.specs.Gather.{Gathered, later}
 use Rattle.line.specs.Texts.{Texts}
-use Rattle.lister.proofs.Lines.{line-fits}
 use Rattle.lister.proofs.Rules.{cap-is, rule-rules, verdict-within}
 use Rattle.lister.proofs.put_lines.Statement.{statement}
 use Rattle.lister.proofs.put_lines.Tie as tie
