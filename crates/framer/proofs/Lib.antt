@@ -2,3 +2,4 @@ pub mod Frame
 pub mod Blocks
 pub mod Counting
 pub mod Written
+pub mod Either

@@ -46,9 +46,9 @@ fn put_frame(
     ensures { λ _. ⌜ now (out .exit) ≡ sets (now (out .entry)) 0 (framed e «at_flag» (now (head .entry)) (now (octets .entry)) (now (tail .entry))) ⌝ }
 {
     let start = put_opening(e, at_flag, out);
-    let first = put::put_each(e, head, out, start);
+    let first = put::put_each(e, false, head, out, start);
     let last = put::put_octets(e, octets, out, first);
-    let end = put::put_each(e, tail, out, last);
+    let end = put::put_each(e, false, tail, out, last);
     out[end] = e.flag;
     end + 1
 }

@@ -1,10 +1,12 @@
-// Octets, escaped, put down from an index of the buffer on, which has room for them; the index after them.
+// Octets, escaped, put down from an index of the buffer on; the index after them. The buffer has room for them and for one octet
+// more, since a flag always follows.
 ghost use mathlib.Core.Path.{_≡_};
-ghost use Prim.Native.Nat.{_+_, _%_, _≤_};
+ghost use mathlib.Core.Bool.{cond};
+ghost use Prim.Native.Nat.{_+_, _%_, _<_};
 ghost use lib.ListN.{length};
 ghost use lib.Seq.{sets};
 ghost use Rattle.framing.specs.Writing.{escapedOne, escaped};
-ghost use Rattle.escapes.specs.Escapes.{behind, writingOf};
+ghost use Rattle.escapes.specs.Escapes.{isEscaped, behind, writingOf};
 use escapes::Escapes;
 
 // So many octets are looked at together.
@@ -15,7 +17,7 @@ const HALF: usize = 4;
 
 // Whole blocks first, then what is left.
 pub(crate) fn put_octets(e: Escapes, octets: &[u8], out: &mut [u8], at: usize) -> usize
-    requires { ⌜ at + length (escaped (writingOf e) (now octets)) ≤ length (now out) ⌝ }
+    requires { ⌜ at + length (escaped (writingOf e) (now octets)) < length (now out) ⌝ }
     ensures { λ r. ⌜ r ≡ at + length (escaped (writingOf e) (now (octets .entry))) ⌝ }
     ensures { λ _. ⌜ now (out .exit) ≡ sets (now (out .entry)) at (escaped (writingOf e) (now (octets .entry))) ⌝ }
 {
@@ -28,7 +30,7 @@ pub(crate) fn put_octets(e: Escapes, octets: &[u8], out: &mut [u8], at: usize) -
 // Whole blocks.
 fn put_blocks(e: Escapes, octets: &[u8], out: &mut [u8], at: usize) -> usize
     requires { ⌜ length (now octets) % 8 ≡ 0 ⌝ }
-    requires { ⌜ at + length (escaped (writingOf e) (now octets)) ≤ length (now out) ⌝ }
+    requires { ⌜ at + length (escaped (writingOf e) (now octets)) < length (now out) ⌝ }
     ensures { λ r. ⌜ r ≡ at + length (escaped (writingOf e) (now (octets .entry))) ⌝ }
     ensures { λ _. ⌜ now (out .exit) ≡ sets (now (out .entry)) at (escaped (writingOf e) (now (octets .entry))) ⌝ }
 {
@@ -36,16 +38,23 @@ fn put_blocks(e: Escapes, octets: &[u8], out: &mut [u8], at: usize) -> usize
     let mut i = 0;
     while i < octets.len() {
         let next = i + BLOCK;
-        to = put_block(e, &octets[i..next], out, to);
+        let many = many_escaped(i, std::num::wrapping_sub_usize(to, at));
+        to = put_block(e, many, &octets[i..next], out, to);
         i = next;
     }
     to
 }
 
+// Whether more than one octet in a block was escaped so far: so many octets took so many places. It says nothing of what is put
+// down, only which way is the faster one.
+fn many_escaped(octets: usize, places: usize) -> bool {
+    octets / BLOCK < std::num::wrapping_sub_usize(places, octets)
+}
+
 // One block: most have no octet that is escaped, and go out as they are.
-fn put_block(e: Escapes, octets: &[u8], out: &mut [u8], at: usize) -> usize
+fn put_block(e: Escapes, many: bool, octets: &[u8], out: &mut [u8], at: usize) -> usize
     requires { ⌜ length (now octets) ≡ 8 ⌝ }
-    requires { ⌜ at + length (escaped (writingOf e) (now octets)) ≤ length (now out) ⌝ }
+    requires { ⌜ at + length (escaped (writingOf e) (now octets)) < length (now out) ⌝ }
     ensures { λ r. ⌜ r ≡ at + length (escaped (writingOf e) (now (octets .entry))) ⌝ }
     ensures { λ _. ⌜ now (out .exit) ≡ sets (now (out .entry)) at (escaped (writingOf e) (now (octets .entry))) ⌝ }
 {
@@ -53,7 +62,7 @@ fn put_block(e: Escapes, octets: &[u8], out: &mut [u8], at: usize) -> usize
         let block = eight(octets);
         return octets::put(&block, out, at);
     }
-    put_each(e, octets, out, at)
+    put_each(e, many, octets, out, at)
 }
 
 // The octets of a block. All are read before the first is put down, so that the compiler may move them at once.
@@ -66,53 +75,76 @@ fn eight(o: &[u8]) -> [u8; 8]
 
 // What is left: half a block as it is, where that is there and none of it is escaped; the others one by one.
 fn put_rest(e: Escapes, octets: &[u8], out: &mut [u8], at: usize) -> usize
-    requires { ⌜ at + length (escaped (writingOf e) (now octets)) ≤ length (now out) ⌝ }
+    requires { ⌜ at + length (escaped (writingOf e) (now octets)) < length (now out) ⌝ }
     ensures { λ r. ⌜ r ≡ at + length (escaped (writingOf e) (now (octets .entry))) ⌝ }
     ensures { λ _. ⌜ now (out .exit) ≡ sets (now (out .entry)) at (escaped (writingOf e) (now (octets .entry))) ⌝ }
 {
     if octets.len() < HALF {
-        return put_each(e, octets, out, at);
+        return put_each(e, false, octets, out, at);
     }
     if e.all_plain(&octets[..HALF]) {
         let mid = octets::put(&octets[..HALF], out, at);
-        return put_each(e, &octets[HALF..], out, mid);
+        return put_each(e, false, &octets[HALF..], out, mid);
     }
-    put_each(e, octets, out, at)
+    put_each(e, true, octets, out, at)
 }
 
 // Octets one by one.
-pub(crate) fn put_each(e: Escapes, octets: &[u8], out: &mut [u8], at: usize) -> usize
-    requires { ⌜ at + length (escaped (writingOf e) (now octets)) ≤ length (now out) ⌝ }
+pub(crate) fn put_each(e: Escapes, many: bool, octets: &[u8], out: &mut [u8], at: usize) -> usize
+    requires { ⌜ at + length (escaped (writingOf e) (now octets)) < length (now out) ⌝ }
     ensures { λ r. ⌜ r ≡ at + length (escaped (writingOf e) (now (octets .entry))) ⌝ }
     ensures { λ _. ⌜ now (out .exit) ≡ sets (now (out .entry)) at (escaped (writingOf e) (now (octets .entry))) ⌝ }
 {
     let mut to = at;
     let mut i = 0;
     while i < octets.len() {
-        to = put_octet(e, octets[i], out, to);
+        to = put_octet(e, many, octets[i], out, to);
         i += 1;
     }
     to
 }
 
-// One octet.
-fn put_octet(e: Escapes, x: u8, out: &mut [u8], at: usize) -> usize
-    requires { ⌜ at + length (escapedOne (writingOf e) x) ≤ length (now out) ⌝ }
+// One octet. Where few are escaped the machine foretells a branch; where many are it can't.
+fn put_octet(e: Escapes, many: bool, x: u8, out: &mut [u8], at: usize) -> usize
+    requires { ⌜ at + length (escapedOne (writingOf e) x) < length (now out) ⌝ }
     ensures { λ r. ⌜ r ≡ at + length (escapedOne (writingOf e) x) ⌝ }
     ensures { λ _. ⌜ now (out .exit) ≡ sets (now (out .entry)) at (escapedOne (writingOf e) x) ⌝ }
 {
+    if many {
+        return put_either(e, x, out, at);
+    }
     if e.escapes(x) {
         out[at] = e.escape;
-        out[at + 1] = behind(e, x);
+        out[at + 1] = second(e, x, x);
         return at + 2;
     }
     out[at] = x;
     at + 1
 }
 
-// What stands behind the escape for an octet that is escaped.
-fn behind(e: Escapes, x: u8) -> u8
-    ensures { λ r. ⌜ r ≡ behind e x ⌝ }
+// One octet without a branch: two places are written in any case, the second with what stands there where the octet takes one.
+fn put_either(e: Escapes, x: u8, out: &mut [u8], at: usize) -> usize
+    requires { ⌜ at + length (escapedOne (writingOf e) x) < length (now out) ⌝ }
+    ensures { λ r. ⌜ r ≡ at + length (escapedOne (writingOf e) x) ⌝ }
+    ensures { λ _. ⌜ now (out .exit) ≡ sets (now (out .entry)) at (escapedOne (writingOf e) x) ⌝ }
+{
+    let next = at + 1;
+    let kept = out[next];
+    out[at] = first(e, x);
+    out[next] = second(e, x, kept);
+    next + crate::room::one_if_escaped(e, x)
+}
+
+// What stands first on the line for an octet.
+fn first(e: Escapes, x: u8) -> u8
+    ensures { λ r. ⌜ r ≡ cond (isEscaped e x) (e .escape) x ⌝ }
+{
+    if e.escapes(x) { e.escape } else { x }
+}
+
+// What stands second for an octet that is escaped; for any other what was there.
+fn second(e: Escapes, x: u8, kept: u8) -> u8
+    ensures { λ r. ⌜ r ≡ cond (isEscaped e x) (behind e x) kept ⌝ }
 {
     if x == e.flag {
         e.behind_flag
@@ -120,7 +152,9 @@ fn behind(e: Escapes, x: u8) -> u8
         e.behind_escape
     } else if x == e.third {
         e.behind_third
-    } else {
+    } else if x == e.fourth {
         e.behind_fourth
+    } else {
+        kept
     }
 }

@@ -86,7 +86,7 @@ fn escape_count(e: Escapes, octets: &[u8]) -> usize
     n
 }
 
-fn one_if_escaped(e: Escapes, x: u8) -> usize
+pub(crate) fn one_if_escaped(e: Escapes, x: u8) -> usize
     ensures { λ r. ⌜ 1 + r ≡ length (escapedOne (writingOf e) x) ⌝ }
 {
     if e.escapes(x) { 1 } else { 0 }

@@ -21,15 +21,15 @@ opening-room : (c : tie.After-put-opening) → let s = c .before .before .before
 opening-room c = omega (arith, start-room (c .before .before .before .before .before .before), c .put-opening .ensures .0, c .put-opening .kept .1 .1 .0)
 
 head-room : (c : tie.After-put-each) → let s = c .before .before .before .before .before .before .before .before .before .before .args in let w = writingOf (s .e) in
-    c .put-each .result + length (escaped w (s .octets .now)) + length (escaped w (s .tail .now)) + 1 ≤ length (c .put-each .last .1 .1 .0)
-head-room c = omega (arith, opening-room (c .before .before .before .before), c .put-each .ensures .0, c .put-each .kept .1 .1 .0)
+    c .put-each .result + length (escaped w (s .octets .now)) + length (escaped w (s .tail .now)) + 1 ≤ length (c .put-each .last .1 .1 .1 .0)
+head-room c = omega (arith, opening-room (c .before .before .before .before), c .put-each .ensures .0, c .put-each .kept .1 .1 .1 .0)
 
 octets-room : (c : tie.After-put-octets) → let s = c .before .before .before .before .before .before .before .before .before .before .before .before .before .before .args in let w = writingOf (s .e) in
     c .put-octets .result + length (escaped w (s .tail .now)) + 1 ≤ length (c .put-octets .last .1 .1 .0)
 octets-room c = omega (arith, head-room (c .before .before .before .before), c .put-octets .ensures .0, c .put-octets .kept .1 .1 .0)
 
-tail-room : (c : tie.After-put-each2) → c .put-each2 .result + 1 ≤ length (c .put-each2 .last .1 .1 .0)
-tail-room c = omega (arith, octets-room (c .before .before .before .before), c .put-each2 .ensures .0, c .put-each2 .kept .1 .1 .0)
+tail-room : (c : tie.After-put-each2) → c .put-each2 .result + 1 ≤ length (c .put-each2 .last .1 .1 .1 .0)
+tail-room c = omega (arith, octets-room (c .before .before .before .before), c .put-each2 .ensures .0, c .put-each2 .kept .1 .1 .1 .0)
 
 put-opening-requires : tie.Need-put-opening-requires
 put-opening-requires c κs = omega (arith, start-room (c .before .before .before .before .before))
@@ -54,7 +54,7 @@ same-length c =
     let t = c .before .before in
     let o = t .before .before .before .before in
     let h = o .before .before .before .before in
-    simp length-set (t .put-each2 .kept .1 .1 .0 ∙ o .put-octets .kept .1 .1 .0 ∙ h .put-each .kept .1 .1 .0 ∙ h .before .before .before .before .put-opening .kept .1 .1 .0)
+    simp length-set (t .put-each2 .kept .1 .1 .1 .0 ∙ o .put-octets .kept .1 .1 .0 ∙ h .put-each .kept .1 .1 .1 .0 ∙ h .before .before .before .before .put-opening .kept .1 .1 .0)
 
 returns : tie.Need-returns
 returns c =

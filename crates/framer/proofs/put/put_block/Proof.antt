@@ -2,6 +2,7 @@
 use Prim.Native.Nat.{ℕ}
 use mathlib.Core.List.{List}
 use mathlib.Core.Path.{sym, ap, _∙_}
+use native.Mathlib.Omega.{arith}
 use borrow.Author.Needs.{needs}
 use Rattle.escapes.specs.Escapes.{writingOf}
 use Rattle.framer.proofs.Blocks.{end-as-is, into-as-is}
@@ -32,8 +33,8 @@ returns c =
     let block = c .before .before .before .before .before .eight .ensures in
     let plain = sym (c .before .before .before .before .before .before .before .all-plain .ensures) ∙ c .before .before .before .before .before .before .if1 .taken in
     let w = writingOf (s .e) in (
-      p .0 ∙ ap (λ (l : List ℕ). putEnd l (s .out .now) (s .at)) block ∙ end-as-is w (s .octets .now) (s .out .now) (s .at) plain (start .pre .1),
-      p .1 ∙ ap (λ (l : List ℕ). putInto l (s .out .now) (s .at)) block ∙ into-as-is w (s .octets .now) (s .out .now) (s .at) plain (start .pre .1),
+      p .0 ∙ ap (λ (l : List ℕ). putEnd l (s .out .now) (s .at)) block ∙ end-as-is w (s .octets .now) (s .out .now) (s .at) plain (omega (arith, start .pre .1)),
+      p .1 ∙ ap (λ (l : List ℕ). putInto l (s .out .now) (s .at)) block ∙ into-as-is w (s .octets .now) (s .out .now) (s .at) plain (omega (arith, start .pre .1)),
     )
 
 put-each-requires : tie.Need-put-each-requires

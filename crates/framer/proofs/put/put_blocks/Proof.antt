@@ -31,6 +31,12 @@ loop-holds c = search needs
 add-next : tie.Need-add-next Inv-loop μ-loop
 add-next c = search needs
 
+wrapping-sub-usize-requires : tie.Need-wrapping-sub-usize-requires Inv-loop μ-loop
+wrapping-sub-usize-requires c κs = tt
+
+many-escaped-requires : tie.Need-many-escaped-requires Inv-loop μ-loop
+many-escaped-requires c κs = tt
+
 sub-put-block : tie.Need-sub-put-block Inv-loop μ-loop
 sub-put-block c = search needs
 
@@ -42,10 +48,10 @@ part-put-block-end c = search needs
 
 put-block-requires : tie.Need-put-block-requires Inv-loop μ-loop
 put-block-requires c κs =
-    let s = c .before .before .before .before .before .before .args in
-    let l = c .before .before .before .loop in
+    let s = c .before .before .before .before .before .before .before .before .args in
+    let l = c .before .before .before .before .before .loop in
     let e = escaped-block (writingOf (s .e)) (s .octets .now) (l .i) 8 in
-    let pre = c .before .before .before .before .before .before .pre .1 in
+    let pre = c .before .before .before .before .before .before .before .before .pre .1 in
     (length-block (s .octets .now) (l .i) 8 (omega arith), omega (arith, simp length-append at (ap length e), l .inv .1, l .inv .2, pre))
 
 loop-less : tie.Need-loop-less Inv-loop μ-loop
@@ -53,14 +59,14 @@ loop-less c = search needs
 
 loop-again : tie.Need-loop-again Inv-loop μ-loop
 loop-again c =
-    let s = c .before .before .before .before .before .before .before .before .before .args in
-    let l = c .before .before .before .before .before .before .loop in
+    let s = c .before .before .before .before .before .before .before .before .before .before .before .args in
+    let l = c .before .before .before .before .before .before .before .before .loop in
     let p = c .before .before .put-block in
     let x = escaped (writingOf (s .e)) (take (l .i + 8 - l .i) (drop (l .i) (s .octets .now))) in
     let rest = escaped (writingOf (s .e)) (drop (l .i + 8) (s .octets .now)) in
     let e = escaped-block (writingOf (s .e)) (s .octets .now) (l .i) 8 in (
       omega arith,
-      p .kept .1 .1 .0 ∙ l .inv .1,
+      p .kept .1 .1 .1 .0 ∙ l .inv .1,
       omega (arith, simp length-append at (ap length e), l .inv .2, p .ensures .0),
       rw (p .ensures .1, p .ensures .0) (sym (sets-++ x rest (l .out) (l .to)) ∙ ap (λ (z : List ℕ). sets (l .out) (l .to) z) (sym e) ∙ l .inv .3),
       omega arith,
@@ -84,6 +90,8 @@ put-blocks-spec =
     μ-loop
     loop-holds
     add-next
+    wrapping-sub-usize-requires
+    many-escaped-requires
     sub-put-block
     part-put-block-start
     part-put-block-end

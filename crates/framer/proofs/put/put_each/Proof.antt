@@ -14,14 +14,14 @@ use Rattle.framer.proofs.put.put_each.Statement.{statement}
 use Rattle.framer.proofs.put.put_each.Tie as tie
 
 abbrev Inv-loop : tie.InvT-loop
-Inv-loop e octets out₀ at to₀ i₀ out to i =
+Inv-loop e many octets out₀ at to₀ i₀ out to i =
     (i ≤ length octets)
     × (length out ≡ length out₀)
     × (to + length (escaped (writingOf e) (drop i octets)) ≡ at + length (escaped (writingOf e) octets))
     × (sets out to (escaped (writingOf e) (drop i octets)) ≡ sets out₀ at (escaped (writingOf e) octets))
 
 abbrev μ-loop : tie.MeasureT-loop
-μ-loop e octets out₀ at to₀ i₀ out to i = length octets - i
+μ-loop e many octets out₀ at to₀ i₀ out to i = length octets - i
 
 loop-holds : tie.Need-loop-holds Inv-loop μ-loop
 loop-holds c = search needs
@@ -51,7 +51,7 @@ loop-again c =
     let rest = escaped (writingOf (s .e)) (drop (l .i + 1) (s .octets .now)) in
     let e = escaped-next (writingOf (s .e)) (s .octets .now) (l .i) (c .before .before .before .before .before .loop-test .taken) in (
       omega arith,
-      p .kept .1 .1 .0 ∙ l .inv .1,
+      p .kept .1 .1 .1 .0 ∙ l .inv .1,
       omega (arith, simp length-append at (ap length e), l .inv .2, p .ensures .0),
       rw (p .ensures .1, p .ensures .0) (sym (sets-++ x rest (l .out) (l .to)) ∙ ap (λ (z : List ℕ). sets (l .out) (l .to) z) (sym e) ∙ l .inv .3),
     )

@@ -64,7 +64,7 @@ put-each-requires-2 c κs =
     omega (arith, length-parts (writingOf (s .e)) (s .octets .now) 4, half p .0, p .put .kept .1 .0, start .pre)
 
 same-length-2 : tie.Need-same-length-2
-same-length-2 c = c .before .before .put-each2 .kept .1 .1 .0 ∙ c .before .before .before .before .before .before .before .put .kept .1 .0
+same-length-2 c = c .before .before .put-each2 .kept .1 .1 .1 .0 ∙ c .before .before .before .before .before .before .before .put .kept .1 .0
 
 returns-2 : tie.Need-returns-2
 returns-2 c =
