@@ -4,3 +4,4 @@ pub mod Runs
 pub mod Judged
 pub mod Turns
 pub mod Steps
+pub mod Ahead

@@ -1,3 +1,4 @@
 pub mod Rule
 pub mod Scan
 pub mod Run
+pub mod Pairs

@@ -1,7 +1,7 @@
 // The loop over a chunk that the readers of all flagged, escaped lines share, up to the flag that closes a segment. A reader
 // hands over its rule, and judges the state that the flag found. What a rule says: specs/Rule; a call: specs/Scan; the laws of
 // it: the crate framing. Runs of octets that stand for themselves: run.rt; the running check: check.rt; what stands
-// behind an escape: pair.rt.
+// behind an escape: pair.rt; octets where many are escaped: pairs.rt.
 ghost use mathlib.Core.Path.{_≡_};
 ghost use mathlib.Core.Bool.{_||_};
 ghost use Prim.Native.Nat.{_≤_};
@@ -13,6 +13,7 @@ use escapes::Escapes;
 
 mod check;
 mod pair;
+mod pairs;
 mod run;
 
 // The running checks (specs/Rule): the sum modulo 256, the register of ISO 3309; any other number keeps the first octet.
@@ -91,7 +92,11 @@ impl Rule {
                 i += 1;
                 let action = self.step(s, x);
                 match action {
-                    Action::Advance(next) => s = next,
+                    Action::Advance(next) => {
+                        let t = pairs::take(self, next, &chunk[i..], buffer);
+                        s = t.state;
+                        i += t.taken;
+                    }
                     Action::Store(next, at, octet) => {
                         buffer[at] = octet;
                         s = next;

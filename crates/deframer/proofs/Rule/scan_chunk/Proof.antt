@@ -6,6 +6,7 @@ use mathlib.Core.Path.{_≡_, refl, sym, ap, _∙_}
 use native.Mathlib.Omega.{arith}
 use borrow.Author.Needs.{needs}
 use lib.ListN.{length, drop, getD, length-set}
+use Rattle.deframer.proofs.Ahead.{ahead-turn, ahead-within}
 use Rattle.deframer.proofs.Runs.{run-fits, run-room, run-turn}
 use Rattle.deframer.proofs.Steps.{lineAction, step-line, step-index}
 use Rattle.deframer.proofs.Rule.scan_chunk.Statement.{statement}
@@ -104,16 +105,46 @@ step-requires c κs = tt
 enum-known-action : tie.Need-enum-known-action Inv-loop μ-loop
 enum-known-action c = search needs
 
+sub-take : tie.Need-sub-take Inv-loop μ-loop
+sub-take c = search needs
+
+part-take-start : tie.Need-part-take-start Inv-loop μ-loop
+part-take-start c = search needs
+
+part-take-end : tie.Need-part-take-end Inv-loop μ-loop
+part-take-end c = search needs
+
+take-requires : tie.Need-take-requires Inv-loop μ-loop
+take-requires c κs = omega (arith, run-inv (c .before .before .before .before .before .before .before .before) .1, c .before .before .before .before .before .before .before .before .before .before .before .before .before .before .before .before .before .before .before .pre)
+
+-- the octets that are taken behind a step are there
+within : (c : tie.After-take Inv-loop μ-loop)
+    → c .before .before .before .before .before .before .before .before .before .before .before .before .before .before .before .before .before .loop .i + c .before .before .before .before .before .before .before .before .before .before .before .before .before .before .run-length .result + 1 + c .take .result .taken ≤ length (c .before .before .before .before .before .before .before .before .before .before .before .before .before .before .before .before .before .before .before .before .args .chunk .now)
+within c =
+    let a = c .before .before .before .before .before .before .before .before .before .before .before .before .before .before .before .before .before .before .before .before .args in
+    ahead-within (a .self) (a .chunk .now) _ _ (omega (arith, c .before .before .before .before .before .before .before .before .if1 .taken)) (c .take .ensures .0)
+
+add-i-2 : tie.Need-add-i-2 Inv-loop μ-loop
+add-i-2 c = omega (arith, within (c .before .before .before .before), c .before .before .before .before .before .before .before .before .before .before .before .before .before .before .before .before .before .before .before .before .before .before .before .before .good .1 .1 .0)
+
 loop-less : tie.Need-loop-less Inv-loop μ-loop
-loop-less c = search needs
+loop-less c = omega (arith, c .before .before .before .before .before .before .before .before .before .before .before .before .before .before .before .before .before .before .before .before .loop-test .taken)
 
 loop-again : tie.Need-loop-again Inv-loop μ-loop
 loop-again c =
-    let d = c .before .before .before in
+    let p = c .before .before .before .before .before .before .before in
+    let d = p .before .before .before in
     let k = d .before .before .before in
     let u = run-inv k in
     let w = k .before .before .with-run in
-    (omega arith, u .1, u .2 ∙ scan-advance _ (view (w .result)) _ _ _ (d .before .before .if1 .taken) _ (taken-action d _ (c .before .action .given .1)))
+    let t = c .before .before .before .before .take in
+    let a = c .before .before .before .before .before .before .before .before .before .before .before .before .before .before .before .before .before .before .before .before .before .before .before .before .args in (
+      within (c .before .before .before .before),
+      t .kept .1 .1 .1 .0 ∙ u .1,
+      u .2
+          ∙ scan-advance _ (view (w .result)) _ _ _ (d .before .before .if1 .taken) _ (taken-action d _ (p .before .action .given .1))
+          ∙ ahead-turn (a .self) (a .chunk .now) _ _ _ _ _ _ (t .ensures .1),
+    )
 
 enum-known-action-2 : tie.Need-enum-known-action-2 Inv-loop μ-loop
 enum-known-action-2 c = search needs
@@ -197,6 +228,11 @@ scan-chunk-spec =
     add-i
     step-requires
     enum-known-action
+    sub-take
+    part-take-start
+    part-take-end
+    take-requires
+    add-i-2
     loop-less
     loop-again
     enum-known-action-2
