@@ -4,10 +4,9 @@ use mathlib.Core.Bool.{Bool}
 use mathlib.Core.List.{List, [], _∷_, _++_, map}
 use mathlib.Core.Path.{_≡_, refl, ap, _∙_}
 use native.Mathlib.Omega.{arith}
-use borrow.Author.Tests.{le-leb, ltb-false}
+use borrow.Author.Tests.{ltb-false}
 use lib.Dec.{ltb}
-use lib.ListN.{length, drop, length-drop}
-use lib.Seq.{length-take-le}
+use lib.ListN.{length}
 use Rattle.common.proofs.Bools.{either}
 use Rattle.common.proofs.Each.{Each, each-++}
 use Rattle.conversion_laws.proofs.Texts.{size-is}
@@ -17,6 +16,7 @@ use Rattle.converter.specs.Gist.{gistOfQaft, gistOfKiss, sourceRules}
 use Rattle.converter.specs.declared.Gist.{Gist}
 use Rattle.converter.specs.declared.Gist.the-variants.{Frame, Skipped, Other}
 use Rattle.framing.proofs.Written.{reportsOf-frames}
+use Rattle.framing.proofs.Shown.{length-shown}
 use Rattle.framing.specs.Reports.{Reported, Unescaped, shown, unescape, unskipped, checkOf, judged, reportsOfOctets, reportsOfSegment, reportsOfSegments, reportsOf, segments, afterFlag}
 use Rattle.framing.specs.Step.{capped}
 use Rattle.kiss.specs.Frame as kiss
@@ -38,9 +38,6 @@ FineBy Other k = Unit
 
 abbrev Fine : Reported Gist → Type 0
 Fine r = FineBy (r .report) (length (r .octets))
-
-length-shown : (m : List ℕ) (i n : ℕ) → i + n ≤ length m → length (shown m i n) ≡ n
-length-shown m i n h = rw (le-leb (i + n) (length m) h) (length-take-le n (drop i m) (omega (arith, length-drop i m)))
 
 module _ (toKiss : Bool) (level : ℕ) where
   capped-most : (n : ℕ) → capped (sourceRules toKiss level) n ≤ n

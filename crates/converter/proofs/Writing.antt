@@ -4,16 +4,15 @@ use mathlib.Core.Bool.{Bool, true, false}
 use mathlib.Core.List.{List, []}
 use mathlib.Core.Path.{_≡_, refl, sym, ap, _∙_}
 use native.Mathlib.Omega.{arith}
-use borrow.Author.Tests.{le-leb, eq-eqb, ne-eqb}
-use lib.Dec.{leb}
-use lib.ListN.{length, take, drop, length-take, length-drop}
+use borrow.Author.Tests.{eq-eqb, ne-eqb}
+use lib.ListN.{length, take, drop, length-drop}
 use lib.Seq.{length-take-le}
-use Rattle.common.proofs.Bools.{either}
 use Rattle.common.specs.Buffer.{withFront}
 use Rattle.converter.proofs.Rules.{Within}
 use Rattle.converter.specs.Gist.{gistLength, dataFrom, frameOf, textOf, textBy}
 use Rattle.converter.specs.declared.Gist.{Gist}
 use Rattle.converter.specs.declared.Gist.the-variants.{Frame, Skipped, Other}
+use Rattle.framing.proofs.Shown.{shown-part, shown-short}
 use Rattle.framing.specs.Reports.{shown}
 use Rattle.kiss.proofs.Frame as kiss
 use Rattle.kiss.specs.Frame as kissFrame
@@ -26,17 +25,13 @@ use Rattle.qaft_write.proofs.Refusals as qaftWriter
 use Rattle.qaft_write.specs.Answer.{Outcome, wrote}
 use Rattle.qaft_write.specs.Write as qaftWrite
 
-length-shown : (m : List ℕ) (i n : ℕ) → length (shown m i n) ≤ n
-length-shown m i n =
-    either (λ (d : List ℕ). length d ≤ n) (leb (i + n) (length m)) (λ _. omega (arith, length-take n (drop i m))) (λ _. omega arith)
-
 frame-fits : (toKiss : Bool) (level : ℕ) (atFlag : Bool) (d : List ℕ) → length d ≤ maxData → length (frameOf toKiss level atFlag d) ≤ maxFrame
 frame-fits true level atFlag d h = omega (arith, kiss.frame-fits atFlag d h)
 frame-fits false level atFlag d h = qaft.frame-fits level atFlag d h
 
 -- no text is longer than the longest frame
 pub text-fits : (toKiss : Bool) (level : ℕ) (atFlag : Bool) (g : Gist) (m : List ℕ) → Within g → length (textOf toKiss level atFlag g m) ≤ maxFrame
-text-fits toKiss level atFlag (Frame n) m h = frame-fits toKiss level atFlag (shown m (dataFrom toKiss) n) (omega (arith, length-shown m (dataFrom toKiss) n, h .1))
+text-fits toKiss level atFlag (Frame n) m h = frame-fits toKiss level atFlag (shown m (dataFrom toKiss) n) (omega (arith, shown-short m (dataFrom toKiss) n, h .1))
 text-fits toKiss level atFlag Skipped m h = omega arith
 text-fits toKiss level atFlag Other m h = omega arith
 
@@ -53,10 +48,10 @@ text-none toKiss level atFlag n m e = rw (eq-eqb n 0 e)
 
 -- ---- as the code goes: by the part of the buffer that is handed to a writer
 shown-front : (m : List ℕ) (n : ℕ) → n ≤ length m → shown m 0 n ≡ take n m
-shown-front m n h = rw (le-leb (0 + n) (length m) (omega arith))
+shown-front m n h = shown-part m 0 n (omega arith)
 
 shown-behind : (m : List ℕ) (n : ℕ) → 1 + n ≤ length m → shown m 1 n ≡ take n (drop 1 m)
-shown-behind m n h = rw (le-leb (1 + n) (length m) h)
+shown-behind m n h = shown-part m 1 n h
 
 module _ (level : ℕ) (atFlag : Bool) (n : ℕ) (m out : List ℕ) (lev : level ≤ maxLevel) (some : n ≡ 0 → ⊥) (most : n ≤ maxData) (segment : maxSegment ≤ length m) (room : maxFrame ≤ length out) where
   -- to KISS

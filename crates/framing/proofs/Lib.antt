@@ -19,3 +19,4 @@ pub mod Emitted
 pub mod Escaping
 pub mod Frames
 pub mod Told
+pub mod Shown

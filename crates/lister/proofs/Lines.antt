@@ -4,15 +4,14 @@ use mathlib.Core.Bool.{Bool, true, false}
 use mathlib.Core.List.{List}
 use mathlib.Core.Path.{_≡_, sym, ap, ap₂, _∙_}
 use native.Mathlib.Omega.{arith}
-use borrow.Author.Tests.{le-leb, lt-ltb, le-ltb}
-use lib.Dec.{leb}
+use borrow.Author.Tests.{lt-ltb, le-ltb}
 use lib.ListN.{length, take, drop, length-take, length-drop}
 use lib.Seq.{sets, length-take-le}
 use Rattle.capture.specs.Counts.{next, countAll}
 use Rattle.capture.specs.declared.Counts.{Counts}
-use Rattle.common.proofs.Bools.{either}
 use Rattle.common.proofs.Refusals.{guarded-both}
 use Rattle.deframer.specs.Scan.{view}
+use Rattle.framing.proofs.Shown.{shown-part, shown-short}
 use Rattle.framing.specs.Reports.{shown}
 use Rattle.framing.specs.Step.{step}
 use Rattle.line.proofs.Gather.{gather-partly}
@@ -28,13 +27,9 @@ use Rattle.listing.specs.declared.Entry.{Entry}
 use Rattle.qaft.specs.Answers.{done, outTooSmall, bufferTooSmall, badLevel}
 use Rattle.qaft.specs.Limits.{maxLevel, maxData, maxSegment}
 
-length-shown : (m : List ℕ) (i n : ℕ) → length (shown m i n) ≤ n
-length-shown m i n =
-    either (λ (d : List ℕ). length d ≤ n) (leb (i + n) (length m)) (λ _. omega (arith, length-take n (drop i m))) (λ _. omega arith)
-
 -- no line is longer than the longest
 pub line-fits : (kiss : Bool) (k : ℕ) (p : Entry) (m : List ℕ) → entryLength p ≤ maxData → length (lineOf kiss k p m) ≤ maxLine
-line-fits kiss k p m h = let d = shown m (dataFrom kiss) (entryLength p) in omega (arith, length-reportLine (next k) p d, length-shown m (dataFrom kiss) (entryLength p))
+line-fits kiss k p m h = let d = shown m (dataFrom kiss) (entryLength p) in omega (arith, length-reportLine (next k) p d, shown-short m (dataFrom kiss) (entryLength p))
 
 -- where the octets of a frame begin
 pub from-small : (kiss : Bool) → dataFrom kiss ≤ 1
@@ -43,7 +38,7 @@ from-small false = omega arith
 
 -- the part of the buffer that is handed over
 pub part-shown : (m : List ℕ) (i n : ℕ) → i + n ≤ length m → take (i + n - i) (drop i m) ≡ shown m i n
-part-shown m i n h = let e : i + n - i ≡ n = omega arith in rw (e, le-leb (i + n) (length m) h)
+part-shown m i n h = let e : i + n - i ≡ n = omega arith in ap (λ (k : ℕ). take k (drop i m)) e ∙ sym (shown-part m i n h)
 
 -- as the code goes: f and n are where the octets begin and how many they are, d the octets, k′ the number; r and out′: what was put
 module _ (kiss : Bool) (k : ℕ) (p : Entry) (m out : List ℕ) (at : ℕ) (few : entryLength p ≤ maxData) (segment : maxSegment ≤ length m) (room : at + maxLine ≤ length out)
@@ -58,7 +53,7 @@ module _ (kiss : Bool) (k : ℕ) (p : Entry) (m out : List ℕ) (at : ℕ) (few 
   line-is = ap₂ (λ (k : ℕ) (d : List ℕ). reportLine k p d) ke octets-are
 
   fits : at + lineRoom (length octets) ≤ length out
-  fits = omega (arith, room, few, ap length octets-are, length-shown m (dataFrom kiss) (entryLength p))
+  fits = omega (arith, room, few, ap length octets-are, shown-short m (dataFrom kiss) (entryLength p))
 
   pub put-line : r ≡ textEnd (lineRoom (length octets)) (reportLine k′ p octets) (length out) at → out′ ≡ textInto (lineRoom (length octets)) (reportLine k′ p octets) out at
       → (r ≡ at + length (lineOf kiss k p m)) × (out′ ≡ sets out at (lineOf kiss k p m))
