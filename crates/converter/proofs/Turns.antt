@@ -16,7 +16,7 @@ use Rattle.converter.specs.declared.Converter.{Converter}
 use Rattle.converter.specs.declared.Gist.{Gist}
 use Rattle.converter.specs.declared.Gist.the-variants.{Frame, Skipped, Other}
 use Rattle.converter.specs.declared.Tally.{Tally}
-use Rattle.deframer.proofs.Turns as turns
+use Rattle.deframer.proofs.TextTurns as turns
 use Rattle.deframer.specs.Scan.{view}
 use Rattle.deframer.specs.declared.State as declared
 use Rattle.framing.specs.Rules.{State}

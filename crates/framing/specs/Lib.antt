@@ -4,6 +4,7 @@ pub mod Step
 pub mod Reports
 pub mod Writing
 pub mod Stored
+pub mod Flags
 pub mod PlainReading
 pub mod Run
 pub mod Closing

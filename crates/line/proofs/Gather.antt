@@ -11,7 +11,7 @@ use lib.ListN.{length, drop, set}
 use Rattle.common.proofs.Bools.{either}
 use Rattle.line.specs.Gather.{Gathered, stop, later, gatherOn, gatherAll, gather, makeAll}
 use Rattle.line.specs.Scan.{Action, advance, store, emit, Scan, after, scanOn, scan}
-use Rattle.line.specs.Trace.{Event, Trace, oneEvent, traceOn, trace}
+use Rattle.line.specs.Trace.{Event, Trace, noEvent, oneEvent, traceOn, trace}
 
 module _ {S C : Type 0} where
   pub later-zero : (g : Gathered S C) → g ≡ later 0 g
@@ -153,3 +153,35 @@ module _ {S R C : Type 0} (make : C → R → List ℕ → C) (more : C → Bool
       unfolding gatherAll stop
       gather-good [] s m c h ok = ok
       gather-good (x ∷ xs) s m c h ok = good-on (f s x) xs m c h (keeps s x m c h ok) (λ t n d e k. gather-good xs t n d e k)
+
+-- ---- where more is always wanted, all octets are taken, and something is made of every report
+module _ {S R C : Type 0} (make : C → R → List ℕ → C) (f : S → ℕ → Action S R) where
+  abbrev pub always : C → Bool
+  always c = true
+
+  -- what is made of a trace
+  abbrev pub madeOf : (xs : List ℕ) → C → Trace S R → Gathered S C
+  madeOf xs c a = record { taken = length xs; state = a .state; buffer = a .buffer; made = makeAll make c (a .events) }
+
+  everything-on : (a : Action S R) (x : ℕ) (xs m : List ℕ) (c : C)
+      → ((t : S) (n : List ℕ) (d : C) → gatherAll make always f t xs n d ≡ madeOf xs d (trace f t xs n))
+      → gatherOn make always a (λ t n d. gatherAll make always f t xs n d) m c ≡ madeOf (x ∷ xs) c (traceOn a (λ t n. trace f t xs n) m)
+  unfolding gatherOn traceOn later oneEvent makeAll
+  everything-on (advance t) x xs m c ih = ap (later 1) (ih t m c) ∙ (λ i. record { taken = one-add (length xs) i; state = trace f t xs m .state; buffer = trace f t xs m .buffer; made = makeAll make c (trace f t xs m .events) })
+  everything-on (store t j y) x xs m c ih =
+      let a = trace f t xs (set m j y) in
+      ap (later 1) (ih t (set m j y) c) ∙ (λ i. record { taken = one-add (length xs) i; state = a .state; buffer = a .buffer; made = makeAll make c (a .events) })
+  everything-on (emit r t) x xs m c ih =
+      let a = trace f t xs m in
+      ap (later 1) (ih t m (make c r m)) ∙ (λ i. record { taken = one-add (length xs) i; state = a .state; buffer = a .buffer; made = makeAll make (make c r m) (a .events) })
+
+  pub gather-everything : (xs : List ℕ) (s : S) (m : List ℕ) (c : C) → gatherAll make always f s xs m c ≡ madeOf xs c (trace f s xs m)
+  unfolding gatherAll trace stop noEvent makeAll
+  gather-everything [] s m c = refl
+  gather-everything (x ∷ xs) s m c = everything-on (f s x) x xs m c (λ t n d. gather-everything xs t n d)
+
+-- reports, and then others
+pub makeAll-++ : {R C : Type 0} (make : C → R → List ℕ → C) (c : C) (es fs : List (Event R)) → makeAll make c (es ++ fs) ≡ makeAll make (makeAll make c es) fs
+unfolding makeAll
+makeAll-++ make c [] fs = refl
+makeAll-++ make c (e ∷ es) fs = makeAll-++ make (make c (e .report) (e .buffer)) es fs

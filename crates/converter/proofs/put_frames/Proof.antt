@@ -11,7 +11,7 @@ use Rattle.converter.proofs.put_frames.Statement.{statement}
 use Rattle.converter.proofs.put_frames.Tie as tie
 use Rattle.converter.specs.Convert.{reportText, counted, gathered}
 use Rattle.converter.specs.Gist.{sourceRules, ruleOf}
-use Rattle.deframer.proofs.Turns.{Turn, start-inv, turn-full, turn-within, turn-ends, turn-takes, turn-goes}
+use Rattle.deframer.proofs.TextTurns.{Turn, start-inv, turn-full, turn-within, turn-ends, turn-takes, turn-goes}
 use Rattle.deframer.specs.Scan.{opened, scanned}
 use Rattle.deframer.specs.declared.Rule.{Rule}
 use Rattle.line.specs.Gather.{later}

@@ -5,7 +5,7 @@ use native.Mathlib.Omega.{arith}
 use borrow.Author.Needs.{needs}
 use lib.ListN.{length, take, drop}
 use lib.Seq.{length-sets}
-use Rattle.deframer.proofs.Turns.{Turn, onwards, start-inv, turn-full, turn-within, turn-ends, turn-takes, turn-goes}
+use Rattle.deframer.proofs.TextTurns.{Turn, onwards, start-inv, turn-full, turn-within, turn-ends, turn-takes, turn-goes}
 use Rattle.deframer.specs.Scan.{opened, scanned}
 use Rattle.deframer.specs.declared.Rule.{Rule}
 use Rattle.framing.specs.Rules.{State}
