@@ -1,25 +1,157 @@
--- Laws of the counts: what they are of a whole line. Assumes nothing.
-use Prim.Native.Nat.{ℕ, _+_, _≤_, _<_}
+-- Octets counted one by one, and a chunk at once: the same. Assumes nothing.
+use Prim.Native.Nat.{ℕ, suc, _+_, _-_, _≤_, _<_}
+use mathlib.Core.Bool.{Bool, true, false, cond}
 use mathlib.Core.List.{List, [], _∷_, _++_}
-use mathlib.Core.Path.{_≡_, refl}
-use native.Mathlib.Numerals.{add-one}
-use lib.ListN.{length, getD, drop, drop-of-length-le}
-use lib.Seq.{drop-cons}
-use Rattle.capture.specs.Counts.{count, countAll}
-use Rattle.capture.specs.declared.Counts.{Counts}
+use mathlib.Core.Path.{_≡_, refl, sym, ap, ap₂, _∙_}
+use native.Mathlib.Nat.{pos-of-ne-zero}
+use native.Mathlib.Omega.{arith}
+use lib.Dec.{eqb}
+use lib.ListN.{length}
+use Rattle.capture.proofs.Flags.{flags-none, closed-none, flags-zero, flags-some, parts-add-up, closed-is}
+use Rattle.capture.specs.Octets.{plainAdded, flagAdded, count, countAll, flagsAdded}
+use Rattle.capture.specs.Whole.{before, flags, closed, between, after}
+use Rattle.capture.specs.declared.Octets.{Octets}
+use Rattle.common.proofs.Bools.{either}
+use Rattle.counter.proofs.Counting.{counted-none, counted-more, counted-stopped}
+use Rattle.counter.specs.Counted.{counted}
+use Rattle.framing.specs.Flags.{hasFlag}
 
--- chunk after chunk is the whole line
-pub countAll-++ : (flag : ℕ) (c : Counts) (xs ys : List ℕ) → countAll flag c (xs ++ ys) ≡ countAll flag (countAll flag c xs) ys
-unfolding countAll
-countAll-++ flag c [] ys = refl
-countAll-++ flag c (x ∷ xs) ys = countAll-++ flag (count flag c x) xs ys
+module _ (most : ℕ) where
+  -- the counts with n octets behind the last flag, and with n before any
+  abbrev behind : Octets → (n : ℕ) → Octets
+  behind c n = record { synced = true; before = c .before; flags = c .flags; between = c .between; after = n }
 
--- a loop that stands at octet i
-module _ (flag : ℕ) (c : Counts) (xs : List ℕ) (i : ℕ) where
-  pub countAll-end : length xs ≤ i → countAll flag c (drop i xs) ≡ c
+  abbrev ahead : Octets → (n : ℕ) → Octets
+  ahead c n = record { synced = false; before = n; flags = c .flags; between = c .between; after = c .after }
+
+  -- as the code goes: m is the count that changes
+  module _ (c : Octets) (n : ℕ) where
+    pub plain-behind : c .synced ≡ true → (m : ℕ) → m ≡ counted most (c .after) n → behind c m ≡ plainAdded most c n
+    unfolding plainAdded
+    plain-behind e m k = ap (behind c) k ∙ rw e
+
+    pub plain-ahead : c .synced ≡ false → (m : ℕ) → m ≡ counted most (c .before) n → ahead c m ≡ plainAdded most c n
+    unfolding plainAdded
+    plain-ahead e m k = ap (ahead c) k ∙ rw e
+
+  -- no octets, and octets after octets
+  plain-none : (c : Octets) → plainAdded most c 0 ≡ c
+  unfolding plainAdded
+  plain-none c = go (c .synced) refl
+    where
+      go : (b : Bool) → c .synced ≡ b → cond b (behind c (counted most (c .after) 0)) (ahead c (counted most (c .before) 0)) ≡ c
+      go true e = ap (behind c) (counted-none most (c .after)) ∙ (λ i. record { synced = sym e i; before = c .before; flags = c .flags; between = c .between; after = c .after })
+      go false e = ap (ahead c) (counted-none most (c .before)) ∙ (λ i. record { synced = sym e i; before = c .before; flags = c .flags; between = c .between; after = c .after })
+
+  plain-more : (c : Octets) (j k : ℕ) → plainAdded most (plainAdded most c j) k ≡ plainAdded most c (j + k)
+  unfolding plainAdded
+  plain-more c j k = either (λ (d : Octets). plainAdded most d k ≡ plainAdded most c (j + k)) (c .synced)
+      (λ e. rw e (ap (behind c) (counted-more most (c .after) j k)))
+      (λ e. rw e (ap (ahead c) (counted-more most (c .before) j k)))
+
+  -- as the code goes: m is what stood between two flags, with what the first flag closed
+  pub flags-are : (c : Octets) (n inner last f m b a : ℕ) → f ≡ counted most (c .flags) n → m ≡ counted most (c .between) (c .after) → b ≡ counted most m inner → a ≡ counted most 0 last
+      → _≡_ {A = Octets} (record { synced = true; before = c .before; flags = f; between = b; after = a }) (flagsAdded most c n inner last)
+  unfolding flagsAdded
+  flags-are c n inner last f m b a fe me be ae =
+      λ i. record { synced = true; before = c .before; flags = fe i; between = (be ∙ ap (λ (m : ℕ). counted most m inner) me) i; after = ae i }
+
+module _ (most flag : ℕ) where
+  -- chunk after chunk is the whole line
+  pub countAll-++ : (c : Octets) (xs ys : List ℕ) → countAll most flag c (xs ++ ys) ≡ countAll most flag (countAll most flag c xs) ys
   unfolding countAll
-  countAll-end h = rw (drop-of-length-le xs h)
+  countAll-++ c [] ys = refl
+  countAll-++ c (x ∷ xs) ys = countAll-++ (count most flag c x) xs ys
 
-  pub countAll-next : i < length xs → countAll flag c (drop i xs) ≡ countAll flag (count flag c (getD xs i 0)) (drop (i + 1) xs)
-  unfolding countAll
-  countAll-next h = rw (add-one i, drop-cons xs i 0 h)
+  -- octets without a flag
+  pub countAll-plain : (l : List ℕ) (c : Octets) → hasFlag flag l ≡ false → countAll most flag c l ≡ plainAdded most c (length l)
+  unfolding countAll count hasFlag
+  countAll-plain [] c k = sym (plain-none most c)
+  countAll-plain (x ∷ l) c k = go (eqb x flag) k (λ h. countAll-plain l (plainAdded most c 1) h)
+    where
+      go : (b : Bool) → cond b true (hasFlag flag l) ≡ false
+          → (hasFlag flag l ≡ false → countAll most flag (plainAdded most c 1) l ≡ plainAdded most (plainAdded most c 1) (length l))
+          → countAll most flag (cond b (flagAdded most c) (plainAdded most c 1)) l ≡ plainAdded most c (suc (length l))
+      go true h ih = let z : _≡_ {A = ℕ} 0 1 = cc in absurd (omega arith)
+      go false h ih = let z : 1 + length l ≡ suc (length l) = omega arith in ih h ∙ plain-more most c 1 (length l) ∙ ap (plainAdded most c) z
+
+  -- octets with one, at once
+  abbrev atOnce : Octets → List ℕ → Octets
+  atOnce c l = flagsAdded most (plainAdded most c (before flag l)) (flags flag l) (between flag l) (after flag l)
+
+  -- a flag, and no other behind it
+  flag-last : (c : Octets) (l : List ℕ) → hasFlag flag l ≡ false
+      → plainAdded most (flagAdded most c) (length l) ≡ flagsAdded most c (suc (flags flag l)) (closed flag l) (length l)
+  unfolding plainAdded flagAdded flagsAdded
+  flag-last c l k =
+      let b = counted most (c .between) (c .after) in
+      λ i. record {
+        synced = true;
+        before = c .before;
+        flags = counted most (c .flags) (suc (sym (flags-none flag l k) i));
+        between = (sym (counted-none most b) ∙ ap (counted most b) (sym (closed-none flag l k))) i;
+        after = counted most 0 (length l);
+      }
+
+  -- a flag, and others behind it
+  flag-more : (c : Octets) (l : List ℕ) → hasFlag flag l ≡ true → atOnce (flagAdded most c) l ≡ flagsAdded most c (suc (flags flag l)) (closed flag l) (after flag l)
+  unfolding plainAdded flagAdded flagsAdded
+  flag-more c l k =
+      let b = counted most (c .between) (c .after) in
+      let z : 1 + flags flag l ≡ suc (flags flag l) = omega arith in
+      λ i. record {
+        synced = true;
+        before = c .before;
+        flags = (counted-more most (c .flags) 1 (flags flag l) ∙ ap (counted most (c .flags)) z) i;
+        between =
+            (ap (λ (n : ℕ). counted most n (between flag l)) (counted-stopped most b (before flag l))
+            ∙ counted-more most b (before flag l) (between flag l)
+            ∙ ap (counted most b) (sym (closed-is flag l k))) i;
+        after = counted most 0 (after flag l);
+      }
+
+  abbrev Flagged : List ℕ → Type 0
+  Flagged l = (c : Octets) → hasFlag flag l ≡ true → countAll most flag c l ≡ atOnce c l
+
+  -- the first octet is a flag
+  flagged-flag : (x : ℕ) (l : List ℕ) → Flagged l → eqb x flag ≡ true → (h : Bool) → hasFlag flag l ≡ h → (c : Octets) → countAll most flag c (x ∷ l) ≡ atOnce c (x ∷ l)
+  unfolding countAll count before flags between after
+  flagged-flag x l ih e true k c =
+      rw (e, k) (ih (flagAdded most c) k ∙ flag-more c l k ∙ ap (λ (c : Octets). flagsAdded most c (suc (flags flag l)) (closed flag l) (after flag l)) (sym (plain-none most c)))
+  flagged-flag x l ih e false k c =
+      rw (e, k) (countAll-plain l (flagAdded most c) k ∙ flag-last c l k ∙ ap (λ (c : Octets). flagsAdded most c (suc (flags flag l)) (closed flag l) (length l)) (sym (plain-none most c)))
+
+  -- another
+  flagged-other : (x : ℕ) (l : List ℕ) → Flagged l → eqb x flag ≡ false → hasFlag flag l ≡ true → (c : Octets) → countAll most flag c (x ∷ l) ≡ atOnce c (x ∷ l)
+  unfolding countAll count before flags between after
+  flagged-other x l ih e k c =
+      let z : 1 + before flag l ≡ suc (before flag l) = omega arith in
+      rw (e, k) (ih (plainAdded most c 1) k
+      ∙ ap (λ (c : Octets). flagsAdded most c (flags flag l) (between flag l) (after flag l)) (plain-more most c 1 (before flag l) ∙ ap (plainAdded most c) z))
+
+  pub countAll-flagged : (l : List ℕ) → Flagged l
+  unfolding hasFlag
+  countAll-flagged [] c k = let z : _≡_ {A = ℕ} 0 1 = cc in absurd (omega arith)
+  countAll-flagged (x ∷ l) c k = go (eqb x flag) refl k (countAll-flagged l)
+    where
+      go : (b : Bool) → eqb x flag ≡ b → cond b true (hasFlag flag l) ≡ true → Flagged l → countAll most flag c (x ∷ l) ≡ atOnce c (x ∷ l)
+      go true e h ih = flagged-flag x l ih e (hasFlag flag l) refl c
+      go false e h ih = flagged-other x l ih e h c
+
+-- ---- as the code goes, on the chunk l: n is how many flags it has, and f and a how many octets stand before the first and after the last
+module _ (flag : ℕ) (l : List ℕ) (n : ℕ) (ne : n ≡ flags flag l) where
+  pub added-plain : (most : ℕ) (c : Octets) → n ≡ 0 → (r : Octets) → r ≡ plainAdded most c (length l) → r ≡ countAll most flag c l
+  added-plain most c h r e = e ∙ sym (countAll-plain most flag l c (flags-zero flag l (sym ne ∙ h)))
+
+  module _ (f a : ℕ) (fe : f ≡ before flag l) (ae : a ≡ after flag l) where
+    pub parts-within : n + f + a ≤ length l
+    parts-within = omega (arith, ne, fe, ae, parts-add-up flag l)
+
+    pub added-flags : (most : ℕ) (c : Octets) → (n ≡ 0 → ⊥) → (o r : Octets) → o ≡ plainAdded most c f → r ≡ flagsAdded most o n (length l - n - f - a) a → r ≡ countAll most flag c l
+    added-flags most c h o r oe re =
+        let some : 0 < n = pos-of-ne-zero h in
+        let k : hasFlag flag l ≡ true = flags-some flag l (omega (arith, ne)) in
+        let inner : length l - n - f - a ≡ between flag l = omega (arith, ne, fe, ae, parts-add-up flag l) in
+        re
+        ∙ (λ i. flagsAdded most ((oe ∙ ap (plainAdded most c) fe) i) (ne i) (inner i) (ae i))
+        ∙ sym (countAll-flagged most flag l c k)

@@ -1,60 +1,128 @@
-// A captured line: its raw octets before the first flag and after the last, counted chunk after chunk (specs/Counts; of a whole
-// capture: specs/Whole).
+// A captured line: its raw octets before the first flag, between flags and after the last, and its flags, counted chunk after chunk
+// (specs/Octets; of a whole capture: specs/Whole). What stands between the first flag of a chunk and its last is counted at once.
+ghost use mathlib.Core.Bool.{cond};
 ghost use mathlib.Core.Path.{_≡_};
-ghost use Rattle.capture.specs.Counts.{freshCounts, count, countAll};
+ghost use Rattle.capture.specs.Octets.{freshOctets, plainAdded, flagsAdded, countAll};
+ghost use Rattle.capture.specs.Whole.{before, flags, after};
 
-// Octets before the first flag and after the last, and whether a flag has come.
-pub struct Counts {
+// Octets before the first flag, flags, octets between two flags, octets after the last; and whether a flag has come.
+pub struct Octets {
     pub synced: bool,
     pub before: u64,
+    pub flags: u64,
+    pub between: u64,
     pub after: u64,
 }
 
-impl Counts {
+impl Octets {
     pub fn new() -> Self
-        ensures { λ r. ⌜ r ≡ freshCounts ⌝ }
+        ensures { λ r. ⌜ r ≡ freshOctets ⌝ }
     {
         Self {
             synced: false,
             before: 0,
+            flags: 0,
+            between: 0,
             after: 0,
         }
     }
 
-    // The counts with the octets of a chunk added, of a line with this flag.
-    pub fn add(self, flag: u8, chunk: &[u8]) -> Self
-        ensures { λ r. ⌜ r ≡ countAll flag self (now (chunk .entry)) ⌝ }
+    // With the octets of a chunk, of a line with this flag; each count stops at `most`.
+    pub fn add(self, flag: u8, most: u64, chunk: &[u8]) -> Self
+        ensures { λ r. ⌜ r ≡ countAll most flag self (now (chunk .entry)) ⌝ }
     {
-        let mut c = self;
-        let mut i = 0;
-        while i < chunk.len() {
-            c = c.add_octet(flag, chunk[i]);
-            i += 1;
+        let n = flags_in(flag, chunk);
+        if n == 0 {
+            return self.with_plain(most, chunk.len() as u64);
         }
-        c
+        let first = octets_before(flag, chunk);
+        let last = octets_after(flag, chunk);
+        let inner = chunk.len() - n - first - last;
+        let opened = self.with_plain(most, first as u64);
+        opened.with_flags(most, n as u64, inner as u64, last as u64)
     }
 
-    fn add_octet(self, flag: u8, x: u8) -> Self
-        ensures { λ r. ⌜ r ≡ count flag self x ⌝ }
+    // With n octets that are no flags.
+    fn with_plain(self, most: u64, n: u64) -> Self
+        ensures { λ r. ⌜ r ≡ plainAdded most self n ⌝ }
     {
-        if x == flag {
-            return Counts {
-                synced: true,
-                before: self.before,
-                after: 0,
-            };
-        }
         if self.synced {
-            return Counts {
+            return Octets {
                 synced: true,
                 before: self.before,
-                after: std::num::wrapping_add_u64(self.after, 1),
+                flags: self.flags,
+                between: self.between,
+                after: counter::add(most, self.after, n),
             };
         }
-        Counts {
+        Octets {
             synced: false,
-            before: std::num::wrapping_add_u64(self.before, 1),
+            before: counter::add(most, self.before, n),
+            flags: self.flags,
+            between: self.between,
             after: self.after,
         }
     }
+
+    // With n flags, so many octets between the first of them and the last, and so many behind the last.
+    fn with_flags(self, most: u64, n: u64, inner: u64, last: u64) -> Self
+        ensures { λ r. ⌜ r ≡ flagsAdded most self n inner last ⌝ }
+    {
+        let closed = counter::add(most, self.between, self.after);
+        Octets {
+            synced: true,
+            before: self.before,
+            flags: counter::add(most, self.flags, n),
+            between: counter::add(most, closed, inner),
+            after: counter::add(most, 0, last),
+        }
+    }
+}
+
+// The flags of a chunk.
+fn flags_in(flag: u8, chunk: &[u8]) -> usize
+    ensures { λ r. ⌜ r ≡ flags flag (now (chunk .entry)) ⌝ }
+{
+    let mut n = 0;
+    let mut i = 0;
+    while i < chunk.len() {
+        n += one_if(chunk[i] == flag);
+        i += 1;
+    }
+    n
+}
+
+// No branch, so that the loop is made vectors of.
+fn one_if(yes: bool) -> usize
+    ensures { λ r. ⌜ r ≡ cond yes 1 0 ⌝ }
+{
+    if yes { 1 } else { 0 }
+}
+
+// The octets before its first flag; all where it has none.
+fn octets_before(flag: u8, chunk: &[u8]) -> usize
+    ensures { λ r. ⌜ r ≡ before flag (now (chunk .entry)) ⌝ }
+{
+    let mut i = 0;
+    while i < chunk.len() {
+        if chunk[i] == flag {
+            return i;
+        }
+        i += 1;
+    }
+    i
+}
+
+// The octets after its last flag; none where it has none.
+fn octets_after(flag: u8, chunk: &[u8]) -> usize
+    ensures { λ r. ⌜ r ≡ after flag (now (chunk .entry)) ⌝ }
+{
+    let mut n = 0;
+    while n < chunk.len() {
+        if chunk[chunk.len() - 1 - n] == flag {
+            return n;
+        }
+        n += 1;
+    }
+    0
 }

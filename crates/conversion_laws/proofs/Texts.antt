@@ -5,8 +5,8 @@ use mathlib.Core.List.{List, [], _∷_, _++_}
 use mathlib.Core.Path.{_≡_, refl, sym, ap, ap₂, _∙_}
 use native.Mathlib.Omega.{arith}
 use lib.ListN.{length}
-use Rattle.capture.proofs.Whole.{next-small}
-use Rattle.capture.specs.Counts.{next}
+use Rattle.counter.proofs.Counting.{next-small}
+use Rattle.counter.specs.Counted.{next}
 use Rattle.conversion_laws.specs.Frames.{Counts, frameBefore, countBefore, framesOf, countsOf, targetLine}
 use Rattle.converter.specs.Convert.{counted, reportText}
 use Rattle.converter.specs.Gist.{sourceRules, dataFrom, gistLength, frameOf, textOf}

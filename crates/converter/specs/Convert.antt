@@ -9,7 +9,7 @@ use mathlib.Core.Bool.{Bool, true, false, cond}
 use mathlib.Core.List.{List, [], _∷_}
 use lib.Dec.{ltb}
 use lib.ListN.{length}
-use Rattle.capture.specs.Counts.{next}
+use Rattle.counter.specs.Counted.{next}
 use Rattle.common.specs.Refusals.{Refusal, guarded}
 use Rattle.converter.specs.Gist.{sourceRules, textOf}
 use Rattle.converter.specs.declared.Converted.{Converted}

@@ -7,9 +7,10 @@ use native.Mathlib.Omega.{arith}
 use borrow.Author.Tests.{lt-ltb, le-ltb}
 use lib.ListN.{length, take, drop, length-take, length-drop}
 use lib.Seq.{sets, length-take-le}
-use Rattle.capture.specs.Counts.{next, countAll}
-use Rattle.capture.specs.declared.Counts.{Counts}
+use Rattle.capture.specs.Octets.{countAll}
+use Rattle.capture.specs.declared.Octets.{Octets}
 use Rattle.common.proofs.Refusals.{guarded-both}
+use Rattle.counter.specs.Counted.{next}
 use Rattle.deframer.specs.Scan.{view}
 use Rattle.framing.proofs.Shown.{shown-part, shown-short}
 use Rattle.framing.specs.Reports.{shown}
@@ -17,15 +18,17 @@ use Rattle.framing.specs.Step.{step}
 use Rattle.line.proofs.Gather.{gather-partly}
 use Rattle.line.specs.Texts.{hasRoom, withText}
 use Rattle.lister.specs.Entries.{flagOf, dataFrom, entryLength, sourceRules, lineOf, counted}
-use Rattle.lister.specs.Lines.{gathered, progressOf, later, Call, callOf, refusal, refusals, list}
+use Rattle.lister.specs.Lines.{mostOctets, gathered, progressOf, later, Call, callOf, refusal, refusals, list}
 use Rattle.lister.specs.declared.Listed.{Listed}
 use Rattle.lister.specs.declared.Lister.{Lister}
 use Rattle.lister.specs.declared.Progress.{Progress}
-use Rattle.listing.proofs.Line.{length-reportLine, text-room}
-use Rattle.listing.specs.Line.{reportLine, lineRoom, maxLine, textInto, textEnd}
+use Rattle.listing.proofs.Line.{length-reportLine}
+use Rattle.listing.specs.Line.{reportLine, lineRoom, maxLine}
 use Rattle.listing.specs.declared.Entry.{Entry}
 use Rattle.qaft.specs.Answers.{done, outTooSmall, bufferTooSmall, badLevel}
 use Rattle.qaft.specs.Limits.{maxLevel, maxData, maxSegment}
+use Rattle.text.proofs.Room.{text-room}
+use Rattle.text.specs.Room.{textInto, textEnd}
 
 -- no line is longer than the longest
 pub line-fits : (kiss : Bool) (k : ℕ) (p : Entry) (m : List ℕ) → entryLength p ≤ maxData → length (lineOf kiss k p m) ≤ maxLine
@@ -83,15 +86,15 @@ module _ (l : Lister) (xs m out : List ℕ) where
 
       -- as the code goes: p is what the loop came to, f the flag, n the counts with the octets taken; b and o: the buffers after it
       module _ (s : maxSegment ≤ length m) (p : Progress) (b o : List ℕ) (pe : p ≡ progressOf (gathered l xs m out)) (be : b ≡ gathered l xs m out .buffer) (oe : o ≡ gathered l xs m out .made .out)
-          (f : ℕ) (fe : f ≡ flagOf (l .kiss)) (n : Counts) (ne : n ≡ countAll f (l .counts) (take (p .taken) xs)) where
+          (f : ℕ) (fe : f ≡ flagOf (l .kiss)) (n : Octets) (ne : n ≡ countAll mostOctets f (l .counts) (take (p .taken) xs)) where
         abbrev made : Listed
         made = record { number = done; taken = p .taken; length = p .behind; lister = record { kiss = l .kiss; level = l .level; state = p .state; reports = p .reports; counts = n } }
 
         made-is : made ≡ callOf l xs (gathered l xs m out) .answer
         unfolding callOf
         made-is =
-            ap (λ (n : Counts). record { number = done; taken = p .taken; length = p .behind; lister = record { kiss = l .kiss; level = l .level; state = p .state; reports = p .reports; counts = n } })
-            (ne ∙ ap (λ (f : ℕ). countAll f (l .counts) (take (p .taken) xs)) fe)
+            ap (λ (n : Octets). record { number = done; taken = p .taken; length = p .behind; lister = record { kiss = l .kiss; level = l .level; state = p .state; reports = p .reports; counts = n } })
+            (ne ∙ ap (λ (f : ℕ). countAll mostOctets f (l .counts) (take (p .taken) xs)) fe)
             ∙ ap (λ (p : Progress). record { number = done; taken = p .taken; length = p .behind; lister = later l p xs }) pe
 
         pub list-made : (made ≡ list l xs m out .answer) × (b ≡ list l xs m out .buffer) × (o ≡ list l xs m out .out)

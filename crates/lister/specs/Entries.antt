@@ -5,7 +5,7 @@
 use Prim.Native.Nat.{ℕ}
 use mathlib.Core.Bool.{Bool, cond}
 use mathlib.Core.List.{List}
-use Rattle.capture.specs.Counts.{next}
+use Rattle.counter.specs.Counted.{next}
 use Rattle.deframer.specs.Scan.{view}
 use Rattle.deframer.specs.declared.Rule.{Rule}
 use Rattle.deframer.specs.declared.State.{State}

@@ -2,12 +2,12 @@
 --
 --   gathered l xs m out   the lines of the chunk xs, as long as the out buffer has room for every line
 --   list l xs m out       a call
-use Prim.Native.Nat.{ℕ}
+use Prim.Native.Nat.{ℕ, _-_, _^_}
 use mathlib.Core.Bool.{Bool, false}
 use mathlib.Core.List.{List, [], _∷_}
 use lib.Dec.{ltb}
 use lib.ListN.{length, take}
-use Rattle.capture.specs.Counts.{freshCounts, countAll}
+use Rattle.capture.specs.Octets.{freshOctets, countAll}
 use Rattle.common.specs.Refusals.{Refusal, guarded}
 use Rattle.deframer.specs.Scan.{view, place}
 use Rattle.deframer.specs.declared.State as declared
@@ -28,7 +28,7 @@ abbrev pub fresh : declared.State
 fresh = record { synced = false; pending = false; bad = false; count = 0; check = 0 }
 
 abbrev pub freshLister : (kiss : Bool) (level : ℕ) → Lister
-freshLister kiss level = record { kiss = kiss; level = level; state = fresh; reports = 0; counts = freshCounts }
+freshLister kiss level = record { kiss = kiss; level = level; state = fresh; reports = 0; counts = freshOctets }
 
 -- while there is room for every line, the lines of the chunk's reports, numbered on
 abbrev pub gathered : Lister → (xs m out : List ℕ) → Gathered (State ℕ) (Texts ℕ)
@@ -38,6 +38,10 @@ gathered l xs m out = textCall (lineOf (l .kiss)) counted maxLine (step (sourceR
 abbrev pub progressOf : Gathered (State ℕ) (Texts ℕ) → Progress
 progressOf g = record { taken = g .taken; state = place (g .state); reports = g .made .tally; behind = g .made .behind }
 
+-- octets are counted up to here
+abbrev pub mostOctets : ℕ
+mostOctets = 2 ^ 64 - 1
+
 -- the octets that a chunk adds to what was counted, of a line with its flag
 abbrev pub later : Lister → Progress → (xs : List ℕ) → Lister
 later l p xs = record {
@@ -45,7 +49,7 @@ later l p xs = record {
   level = l .level;
   state = p .state;
   reports = p .reports;
-  counts = countAll (flagOf (l .kiss)) (l .counts) (take (p .taken) xs);
+  counts = countAll mostOctets (flagOf (l .kiss)) (l .counts) (take (p .taken) xs);
 }
 
 -- a call: its answer, the reader's buffer and the out buffer after it

@@ -7,15 +7,19 @@ ghost use Prim.Native.Nat.{_+_, _≤_};
 ghost use lib.ListN.{length};
 ghost use lib.Seq.{sets};
 ghost use Rattle.qaft.specs.Limits.{maxData, maxSegment};
-ghost use Rattle.listing.specs.Line.{maxLine, shortLine, textInto, textEnd};
+ghost use Rattle.listing.specs.Line.{maxLine, shortLine};
+ghost use Rattle.text.specs.Room.{textInto, textEnd};
 ghost use Rattle.lister.specs.Entries.{flagOf, dataFrom, entryLength, ruleOf, entryOf, lineOf};
 ghost use Rattle.lister.specs.Lines.{freshLister, gathered, progressOf, list, lastLine};
-use capture::Counts;
+use capture::Octets;
 use deframer::Rule;
 use deframer::State;
 use listing::Entry;
 
 mod entry;
+
+// Octets are counted up to here.
+const MOST_OCTETS: u64 = u64::MAX;
 
 // What goes from chunk to chunk: the framing, and the level of QAFT; the state of reading, the number of reports, the counts of
 // octets before and after the flags.
@@ -24,7 +28,7 @@ pub struct Lister {
     pub level: u8,
     pub state: State,
     pub reports: u64,
-    pub counts: Counts,
+    pub counts: Octets,
 }
 
 // The answer to a call: a refusal's number or 0, the octets of the chunk taken, the octets put at the front of the out
@@ -60,7 +64,7 @@ impl Lister {
                 check: 0,
             },
             reports: 0,
-            counts: Counts::new(),
+            counts: Octets::new(),
         }
     }
 
@@ -94,7 +98,7 @@ impl Lister {
                 level: self.level,
                 state,
                 reports: p.reports,
-                counts: counts.add(source_flag(self.kiss), &chunk[..taken]),
+                counts: counts.add(source_flag(self.kiss), MOST_OCTETS, &chunk[..taken]),
             },
         }
     }

@@ -12,7 +12,7 @@ use lib.Dec.{leb}
 use lib.ListN.{length, take, drop, length-append}
 use lib.Seq.{sets}
 use Rattle.listing.proofs.Entry as entries
-use Rattle.listing.specs.Line.{name, details, reportLine, lineRoom, shortLine, textInto, textEnd}
+use Rattle.listing.specs.Line.{name, details, reportLine, lineRoom, shortLine}
 use Rattle.listing.specs.Names.{names, nameStart, nameEnd}
 use Rattle.listing.specs.declared.Entry.{Entry}
 use Rattle.listing.specs.declared.Entry.the-variants.{Frame, Aborted, Long, Short, BadCheck, BadEscape, Skipped}
@@ -133,28 +133,6 @@ module _ (p : Entry) (n : ℕ) (told : p ≡ Frame n) (d m m₁ m₂ m₃ m₄ :
 
   pub details-placed : Placed m i (details p d) m₄ r
   details-placed = subst (λ (p : Entry). Placed m i (details p d) m₄ r) (sym told) frame-placed
-
--- room from the index i on, told by what is left behind it
-pub room-left : (i n : ℕ) → i ≤ n → leb shortLine (n - i) ≡ leb (i + shortLine) n
-room-left i n h = go (leb (i + shortLine) n) refl
-  where
-    go : (b : Bool) → leb (i + shortLine) n ≡ b → leb shortLine (n - i) ≡ b
-    go true e = let k = leb-true (i + shortLine) n e in le-leb shortLine (n - i) (omega arith)
-    go false e = let k = leb-false (i + shortLine) n e in lt-leb shortLine (n - i) (omega arith)
-
--- a text is put where there is room, and else nothing
-module _ (n : ℕ) (t out : List ℕ) (i : ℕ) where
-  pub text-none : length out < i + n → (textEnd n t (length out) i ≡ i) × (textInto n t out i ≡ out)
-  unfolding textEnd textInto
-  text-none h = let e = lt-leb _ _ h in (rw e, rw e)
-
-  module _ (h : i + n ≤ length out) where
-    pub text-room : (textEnd n t (length out) i ≡ i + length t) × (textInto n t out i ≡ sets out i t)
-    unfolding textEnd textInto
-    text-room = let e = le-leb _ _ h in (rw e, rw e)
-
-    pub text-placed : (r : ℕ) (out′ : List ℕ) → Placed out i t out′ r → (r ≡ textEnd n t (length out) i) × (out′ ≡ textInto n t out i)
-    text-placed r out′ p = (p .behind ∙ sym (text-room .0), p .octets ∙ sym (text-room .1))
 
 -- a report that is no frame has nothing behind its name
 pub no-details : (p : Entry) (d : List ℕ) → OneOf (1 ∷ 2 ∷ 3 ∷ 4 ∷ 5 ∷ 6 ∷ []) (tagOf entries.the-type p) → details p d ≡ []

@@ -6,9 +6,7 @@
 use Prim.Native.Nat.{ℕ, _+_, _*_}
 use mathlib.Core.Bool.{Bool, cond}
 use mathlib.Core.List.{List, [], _++_}
-use lib.Dec.{leb}
 use lib.ListN.{length}
-use lib.Seq.{sets}
 use Rattle.listing.specs.declared.Entry.{Entry}
 use Rattle.listing.specs.declared.Entry.the-variants.{Frame, Aborted, Long, Short, BadCheck, BadEscape, Skipped}
 use Rattle.qaft.specs.Limits.{maxData}
@@ -58,10 +56,3 @@ maxLine = lineRoom maxData
 -- room for the heading and for the last line: three numbers, and 20 octets beside them
 abbrev pub shortLine : ℕ
 shortLine = 3 * maxDigits + 20
-
--- a text at index i of an output buffer, and the index behind it; where the buffer has no room for n octets there, nothing
-unfoldable pub textInto : (n : ℕ) (t out : List ℕ) (i : ℕ) → List ℕ
-textInto n t out i = cond (leb (i + n) (length out)) (sets out i t) out
-
-unfoldable pub textEnd : (n : ℕ) (t : List ℕ) (room i : ℕ) → ℕ
-textEnd n t room i = cond (leb (i + n) room) (i + length t) i

@@ -2,13 +2,13 @@
 // What reads and composes stands above.
 ghost use mathlib.Core.Path.{_≡_};
 ghost use Prim.Native.Nat.{_+_, _-_, _*_, _≤_};
-ghost use lib.Dec.{leb};
 ghost use lib.ListN.{length, take, drop};
 ghost use Rattle.octets.specs.Put.{putEnd, putInto};
 ghost use Rattle.text.specs.Placed.{Placed};
+ghost use Rattle.text.specs.Room.{textInto, textEnd};
 ghost use Rattle.text.specs.Text.{maxDigits};
 ghost use Rattle.listing.specs.Names.{nameStart, nameEnd};
-ghost use Rattle.listing.specs.Line.{heading, name, details, reportLine, endLine, lineRoom, shortLine, textInto, textEnd};
+ghost use Rattle.listing.specs.Line.{heading, name, details, reportLine, endLine, lineRoom, shortLine};
 
 // What a listing calls a report, of either framing; a frame with the number of its data octets.
 pub enum Entry {
@@ -36,7 +36,7 @@ pub fn put_heading(kiss: bool, level: u8, out: &mut [u8], at: usize) -> usize
     ensures { λ r. ⌜ r ≡ textEnd shortLine (heading kiss level) (length (now (out .entry))) at ⌝ }
     ensures { λ _. ⌜ now (out .exit) ≡ textInto shortLine (heading kiss level) (now (out .entry)) at ⌝ }
 {
-    if has_room(out.len(), at) {
+    if octets::has_room(SHORT_LINE, out.len(), at) {
         return heading_pieces(kiss, level, out, at);
     }
     at
@@ -65,20 +65,10 @@ pub fn put_end(reports: u64, before: u64, after: u64, out: &mut [u8], at: usize)
     ensures { λ r. ⌜ r ≡ textEnd shortLine (endLine reports before after) (length (now (out .entry))) at ⌝ }
     ensures { λ _. ⌜ now (out .exit) ≡ textInto shortLine (endLine reports before after) (now (out .entry)) at ⌝ }
 {
-    if has_room(out.len(), at) {
+    if octets::has_room(SHORT_LINE, out.len(), at) {
         return end_pieces(reports, before, after, out, at);
     }
     at
-}
-
-// Whether a buffer of `length` octets has room for a short line from index `at` on.
-fn has_room(length: usize, at: usize) -> bool
-    ensures { λ r. ⌜ r ≡ leb (at + shortLine) length ⌝ }
-{
-    if length < at {
-        return false;
-    }
-    SHORT_LINE <= length - at
 }
 
 fn heading_pieces(kiss: bool, level: u8, out: &mut [u8], at: usize) -> usize

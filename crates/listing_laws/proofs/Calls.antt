@@ -6,8 +6,8 @@ use mathlib.Core.Path.{_≡_, refl, sym, ap, _∙_, subst}
 use native.Mathlib.Omega.{arith}
 use lib.ListN.{length, take, drop, length-drop, take-append-drop}
 use Rattle.capture.proofs.Counting.{countAll-++}
-use Rattle.capture.specs.Counts.{countAll}
-use Rattle.capture.specs.declared.Counts.{Counts}
+use Rattle.capture.specs.Octets.{countAll}
+use Rattle.capture.specs.declared.Octets.{Octets}
 use Rattle.deframer.specs.Scan.{place}
 use Rattle.framing.proofs.Emitted.{step-report}
 use Rattle.framing.proofs.Formed.{Fit, step-keeps}
@@ -23,7 +23,7 @@ use Rattle.line.specs.Trace.{trace}
 use Rattle.lister.proofs.Lines.{line-fits, list-gathered}
 use Rattle.lister.proofs.Rules.{lawful, verdict-within}
 use Rattle.lister.specs.Entries.{flagOf, sourceRules, entryLength, lineOf, counted}
-use Rattle.lister.specs.Lines.{Call, callOf}
+use Rattle.lister.specs.Lines.{mostOctets, Call, callOf}
 use Rattle.lister.specs.declared.Lister.{Lister}
 use Rattle.listing.specs.Line.{maxLine}
 use Rattle.listing.specs.declared.Entry.{Entry}
@@ -44,22 +44,22 @@ module _ (kiss : Bool) (level : ℕ) (h : level ≤ maxLevel) where
   abbrev flag : ℕ
   flag = flagOf kiss
 
-  abbrev pub listerAt : State ℕ → (k : ℕ) → Counts → Lister
+  abbrev pub listerAt : State ℕ → (k : ℕ) → Octets → Lister
   listerAt s k c = record { kiss = kiss; level = level; state = place s; reports = k; counts = c }
 
   -- what a caller that makes texts wrote, as the lister's caller has it
-  abbrev pub retold : Counts → texting.Written (State ℕ) ℕ → Written
+  abbrev pub retold : Octets → texting.Written (State ℕ) ℕ → Written
   retold c w = record { text = w .text; lister = listerAt (w .state) (w .tally) c; buffer = w .buffer; out = w .out }
 
   segment : (s : State ℕ) (m : List ℕ) → Fit (sourceRules kiss level) s m → maxSegment ≤ length m
   segment s m fit = omega (arith, cap-is kiss level, fit .room)
 
   -- octets counted in two parts
-  counted-on : (c : Counts) (n : ℕ) (xs : List ℕ) → countAll flag (countAll flag c (take n xs)) (drop n xs) ≡ countAll flag c xs
-  counted-on c n xs = sym (countAll-++ flag c (take n xs) (drop n xs)) ∙ ap (countAll flag c) (take-append-drop n xs)
+  counted-on : (c : Octets) (n : ℕ) (xs : List ℕ) → countAll mostOctets flag (countAll mostOctets flag c (take n xs)) (drop n xs) ≡ countAll mostOctets flag c xs
+  counted-on c n xs = sym (countAll-++ mostOctets flag c (take n xs) (drop n xs)) ∙ ap (countAll mostOctets flag c) (take-append-drop n xs)
 
-  chunk-is : (n : ℕ) (s : State ℕ) (k : ℕ) (c : Counts) (xs m out : List ℕ) → Fit (sourceRules kiss level) s m → maxLine ≤ length out → length xs ≤ n
-      → listChunk n (listerAt s k c) xs m out ≡ retold (countAll flag c xs) (textChunk (lineOf kiss) counted maxLine (step (sourceRules kiss level)) n s k xs m out)
+  chunk-is : (n : ℕ) (s : State ℕ) (k : ℕ) (c : Octets) (xs m out : List ℕ) → Fit (sourceRules kiss level) s m → maxLine ≤ length out → length xs ≤ n
+      → listChunk n (listerAt s k c) xs m out ≡ retold (countAll mostOctets flag c xs) (textChunk (lineOf kiss) counted maxLine (step (sourceRules kiss level)) n s k xs m out)
   unfolding listChunk textChunk callOf countAll
   chunk-is zero s k c [] m out fit room few = refl
   chunk-is zero s k c (x ∷ xs) m out fit room few = let z : ⊥ = omega arith in absurd z
@@ -68,17 +68,17 @@ module _ (kiss : Bool) (level : ℕ) (h : level ≤ maxLevel) where
       let g = textCall (lineOf kiss) counted maxLine (step (sourceRules kiss level)) s k (x ∷ xs) m out in
       let w = call-within (lineOf kiss) counted maxLine (step (sourceRules kiss level)) (Fit (sourceRules kiss level)) (step-keeps (sourceRules kiss level) (lawful kiss level)) (lines-short kiss level) s k (x ∷ xs) m out fit room in
       let zs = drop (g .taken) (x ∷ xs) in
-      let c′ = countAll flag c (take (g .taken) (x ∷ xs)) in
+      let c′ = countAll mostOctets flag c (take (g .taken) (x ∷ xs)) in
       let shorter : length zs ≤ n = omega (arith, length-drop (g .taken) (x ∷ xs), gather-takes (withText (lineOf kiss) counted) (hasRoom maxLine) (step (sourceRules kiss level)) x xs s m (record { tally = k; out = out; behind = 0 })) in
       let rest = textChunk (lineOf kiss) counted maxLine (step (sourceRules kiss level)) n (g .state) (g .made .tally) zs (g .buffer) (g .made .out) in
       ap (λ (k : Call). following (take (k .answer .length) (k .out)) (listChunk n (k .answer .lister) (drop (k .answer .taken) (x ∷ xs)) (k .buffer) (k .out)))
       (list-gathered (listerAt s k c) (x ∷ xs) m out h room (segment s m fit))
       ∙ ap (following (take (g .made .behind) (g .made .out)))
       (chunk-is n (g .state) (g .made .tally) c′ zs (g .buffer) (g .made .out) (w .good) (omega (arith, w .long)) shorter
-      ∙ ap (λ (c : Counts). retold c rest) (counted-on c (g .taken) (x ∷ xs)))
+      ∙ ap (λ (c : Octets). retold c rest) (counted-on c (g .taken) (x ∷ xs)))
 
-  pub chunks-is : (xss : List (List ℕ)) (s : State ℕ) (k : ℕ) (c : Counts) (m out : List ℕ) → Fit (sourceRules kiss level) s m → maxLine ≤ length out
-      → listChunks (listerAt s k c) xss m out ≡ retold (countAll flag c (flatten xss)) (textChunks (lineOf kiss) counted maxLine (step (sourceRules kiss level)) s k xss m out)
+  pub chunks-is : (xss : List (List ℕ)) (s : State ℕ) (k : ℕ) (c : Octets) (m out : List ℕ) → Fit (sourceRules kiss level) s m → maxLine ≤ length out
+      → listChunks (listerAt s k c) xss m out ≡ retold (countAll mostOctets flag c (flatten xss)) (textChunks (lineOf kiss) counted maxLine (step (sourceRules kiss level)) s k xss m out)
   unfolding listChunks textChunks countAll flatten
   chunks-is [] s k c m out fit room = refl
   chunks-is (xs ∷ xss) s k c m out fit room =
@@ -91,5 +91,5 @@ module _ (kiss : Bool) (level : ℕ) (h : level ≤ maxLevel) where
       let rest = textChunks (lineOf kiss) counted maxLine (step (sourceRules kiss level)) (w .state) (w .tally) xss (w .buffer) (w .out) in
       ap (λ (v : Written). following (v .text) (listChunks (v .lister) xss (v .buffer) (v .out))) (chunk-is (length xs) s k c xs m out fit room (omega arith))
       ∙ ap (following (w .text))
-      (chunks-is xss (w .state) (w .tally) (countAll flag c xs) (w .buffer) (w .out) f (omega (arith, r .long-is))
-      ∙ ap (λ (c : Counts). retold c rest) (sym (countAll-++ flag c xs (flatten xss))))
+      (chunks-is xss (w .state) (w .tally) (countAll mostOctets flag c xs) (w .buffer) (w .out) f (omega (arith, r .long-is))
+      ∙ ap (λ (c : Octets). retold c rest) (sym (countAll-++ mostOctets flag c xs (flatten xss))))

@@ -7,8 +7,8 @@ use native.Mathlib.Nat.{add-zero}
 use native.Mathlib.Numerals.{add-one}
 use native.Mathlib.Omega.{arith}
 use lib.ListN.{length}
-use Rattle.capture.proofs.Whole.{next-small}
-use Rattle.capture.specs.Counts.{next}
+use Rattle.counter.proofs.Counting.{next-small}
+use Rattle.counter.specs.Counted.{next}
 use Rattle.framing.specs.Reports.{Reported, reported, shownReports}
 use Rattle.framing.specs.Told.{toldReport}
 use Rattle.line.specs.Texts.{textsOf, tallyOf}

@@ -7,14 +7,15 @@ use native.Mathlib.Nat.{zero-add}
 use native.Mathlib.Omega.{arith}
 use lib.ListN.{length, take}
 use lib.Seq.{length-sets}
-use Rattle.capture.proofs.Whole.{counts-whole}
-use Rattle.capture.specs.Counts.{freshCounts}
-use Rattle.capture.specs.Whole.{hasFlag, before, after}
-use Rattle.capture.specs.declared.Counts.{Counts}
+use Rattle.capture.proofs.Whole.{octets-exact}
+use Rattle.capture.specs.Octets.{freshOctets}
+use Rattle.capture.specs.Whole.{before, flags, between, after}
+use Rattle.capture.specs.declared.Octets.{Octets}
 use Rattle.deframer.specs.Scan.{place}
 use Rattle.framing.proofs.Formed.{Fit, fresh-formed, step-keeps}
 use Rattle.framing.proofs.Meaning.{trace-reports}
 use Rattle.framing.proofs.Told.{reports-told}
+use Rattle.framing.specs.Flags.{hasFlag}
 use Rattle.framing.specs.Reports.{Reported, reportsOf, shownReports}
 use Rattle.framing.specs.Rules.{State}
 use Rattle.framing.specs.Step.{fresh, step}
@@ -28,11 +29,10 @@ use Rattle.line.specs.Texts as texting
 use Rattle.line.specs.Trace.{Event, trace}
 use Rattle.lister.proofs.Rules.{lawful, qaft-length, kiss-length}
 use Rattle.lister.specs.Entries.{entryOfQaft, entryOfKiss, entryLength, flagOf, sourceRules, lineOf, counted}
-use Rattle.lister.specs.Lines.{freshLister, lastLine}
+use Rattle.lister.specs.Lines.{mostOctets, freshLister, lastLine}
 use Rattle.lister.specs.declared.Lister.{Lister}
 use Rattle.listing.proofs.Ends.{length-heading, length-endLine}
-use Rattle.listing.proofs.Line.{text-room}
-use Rattle.listing.specs.Line.{heading, endLine, maxLine, shortLine, textInto}
+use Rattle.listing.specs.Line.{heading, endLine, maxLine, shortLine}
 use Rattle.listing.specs.declared.Entry.{Entry}
 use Rattle.listing_laws.proofs.Calls.{cap-is, lines-short, retold, chunks-is}
 use Rattle.listing_laws.proofs.Events.{lines-shown, counted-all, length-shown, lines-told, length-told}
@@ -41,6 +41,8 @@ use Rattle.listing_laws.specs.Listing.{linesFrom, linesOf, qaftListing, 
 use Rattle.qaft.specs.Limits.{maxLevel, maxSegment}
 use Rattle.qaft_laws.proofs.Rules as qaftLaws
 use Rattle.qaft_rules.specs.Rules as qaftRules
+use Rattle.text.proofs.Room.{text-room}
+use Rattle.text.specs.Room.{textInto}
 
 -- a short line, written where there is room for it
 module _ (t out : List ℕ) (few : length t ≤ shortLine) (room : shortLine ≤ length out) where
@@ -73,7 +75,7 @@ by-reports false level l =
     ap (λ (t : List ℕ). heading false level ++ t)
     (lines-by entryOfQaft (flagOf false) (reportsOf (sourceRules false level) l) rs l (λ n. ap (linesFrom (λ p. p) n) e ∙ lines-told entryOfQaft rs n) (ap length e ∙ length-told entryOfQaft rs))
 
-fresh-is : (kiss : Bool) (level : ℕ) → freshLister kiss level ≡ record { kiss = kiss; level = level; state = place (fresh (sourceRules kiss level)); reports = 0; counts = freshCounts }
+fresh-is : (kiss : Bool) (level : ℕ) → freshLister kiss level ≡ record { kiss = kiss; level = level; state = place (fresh (sourceRules kiss level)); reports = 0; counts = freshOctets }
 fresh-is true level = refl
 fresh-is false level = refl
 
@@ -114,14 +116,20 @@ module _ (kiss : Bool) (level : ℕ) (h : level ≤ maxLevel) (m out : List ℕ)
       xss (fresh (sourceRules kiss level)) 0 m headed fit (omega (arith, long))
 
   -- the counts of the whole capture
-  abbrev counts : Counts
-  counts = record { synced = hasFlag (flagOf kiss) capture; before = before (flagOf kiss) capture; after = after (flagOf kiss) capture }
+  abbrev counts : Octets
+  counts = record {
+    synced = hasFlag (flagOf kiss) capture;
+    before = before (flagOf kiss) capture;
+    flags = flags (flagOf kiss) capture;
+    between = between (flagOf kiss) capture;
+    after = after (flagOf kiss) capture;
+  }
 
   written-is : written ≡ retold kiss level h counts texts
   written-is =
       ap (λ (l : Lister). listChunks l xss m headed) (fresh-is kiss level)
-      ∙ chunks-is kiss level h xss (fresh (sourceRules kiss level)) 0 freshCounts m headed fit (omega (arith, long))
-      ∙ ap (λ (c : Counts). retold kiss level h c texts) (counts-whole (flagOf kiss) capture few)
+      ∙ chunks-is kiss level h xss (fresh (sourceRules kiss level)) 0 freshOctets m headed fit (omega (arith, long))
+      ∙ ap (λ (c : Octets). retold kiss level h c texts) (octets-exact mostOctets (flagOf kiss) capture (omega arith))
 
   shown : shownReports (sourceRules kiss level) events ≡ reports
   shown = trace-reports (sourceRules kiss level) (lawful kiss level) capture m capped

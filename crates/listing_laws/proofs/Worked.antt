@@ -1,9 +1,10 @@
 -- The scope paper's listing, by computation on the definition. Assumes nothing.
 use mathlib.Core.List.{[], _∷_}
 use mathlib.Core.Path.{_≡_, refl}
-use Rattle.capture.specs.Whole.{hasFlag, before, after}
+use Rattle.capture.specs.Whole.{before, after}
 use Rattle.listing.specs.Line.{heading, details, reportLine, endLine}
 use Rattle.listing_laws.specs.Listing.{textOf, linesFrom, qaftListing, kissListing}
+use Rattle.framing.specs.Flags.{hasFlag}
 use Rattle.framing.specs.Reports.{afterFlag, atFront, segments, unskipped, onto, ontoPair, unescape, checkFrom, checkOf, judged, reportsOfOctets, reportsOfSegment, reportsOfSegments, reportsOf}
 use Rattle.kiss.specs.Octets.{isBadEscape, standsFor, portOf, commandOf, isData}
 use Rattle.kiss_rules.specs.Rules as kiss

@@ -26,6 +26,15 @@ placed-++ m i xs ys m₁ m₂ j k p q = record {
 pub length-placed : (m : List ℕ) (i : ℕ) (xs m′ : List ℕ) (j : ℕ) → Placed m i xs m′ j → length m′ ≡ length m
 length-placed m i xs m′ j p = ap length (p .octets) ∙ length-sets m i xs
 
+-- where there was room for l octets and k more, at most l were put, and so there is room for the k
+pub room-behind : (l k : ℕ) (m : List ℕ) (i : ℕ) (xs m′ : List ℕ) (j : ℕ) → length xs ≤ l → i + (l + k) ≤ length m → Placed m i xs m′ j → j + k ≤ length m′
+room-behind l k m i xs m′ j few room p = omega (arith, p .behind, length-placed m i xs m′ j p)
+
+-- a piece of at most l octets, and room for what comes behind it
+pub placed-then : (l k : ℕ) (xs m : List ℕ) (i : ℕ) (m′ : List ℕ) (j : ℕ) → length xs ≤ l → i + (l + k) ≤ length m → j ≡ putEnd xs m i → m′ ≡ putInto xs m i
+    → Placed m i xs m′ j × (j + k ≤ length m′)
+placed-then l k xs m i m′ j few room e d = let p = placed xs m i m′ j (omega arith) e d in (p, room-behind l k m i xs m′ j few room p)
+
 -- the digits of a number, taken from the end of 20 octets
 pub put-digits : (n r from i : ℕ) (digits m m′ part : List ℕ) → length digits ≡ maxDigits → drop from digits ≡ decimal n → part ≡ take (maxDigits - from) (drop from digits)
     → r ≡ putEnd part m i → m′ ≡ putInto part m i → (r ≡ putEnd (decimal n) m i) × (m′ ≡ putInto (decimal n) m i)

@@ -8,7 +8,7 @@ ghost use Rattle.octets.specs.Put.{putEnd, putInto};
 ghost use Rattle.text.specs.Text.{decimal, maxDigits, hexDigit, hex};
 
 // The most digits of a number.
-const MAX_DIGITS: usize = 20;
+pub const MAX_DIGITS: usize = 20;
 
 // A number in decimal.
 pub fn put_decimal(n: u64, out: &mut [u8], at: usize) -> usize

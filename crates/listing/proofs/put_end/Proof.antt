@@ -2,9 +2,9 @@
 use mathlib.Core.Path.{sym, _∙_}
 use borrow.Author.Needs.{needs}
 use borrow.Author.Tests.{leb-true, leb-false}
-use Rattle.listing.proofs.Line.{text-none, text-placed}
 use Rattle.listing.proofs.put_end.Statement.{statement}
 use Rattle.listing.proofs.put_end.Tie as tie
+use Rattle.text.proofs.Room.{text-none, text-placed}
 
 has-room-requires : tie.Need-has-room-requires
 has-room-requires c κs = search needs

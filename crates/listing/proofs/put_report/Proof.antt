@@ -3,10 +3,10 @@ use mathlib.Core.Path.{sym}
 use native.Mathlib.Omega.{arith}
 use borrow.Author.Needs.{needs}
 use lib.ListN.{length}
-use Rattle.listing.proofs.Line.{text-none, text-placed}
 use Rattle.listing.proofs.put_report.Statement.{statement}
 use Rattle.listing.proofs.put_report.Tie as tie
 use Rattle.listing.specs.Line.{lineRoom, reportLine}
+use Rattle.text.proofs.Room.{text-none, text-placed}
 
 returns : tie.Need-returns
 returns c =
