@@ -1,0 +1,118 @@
+-- The line sheet: what a whole capture adds to its line, as the request counts it, over the capture with no state. Cited by the contracts and by
+-- the theorems. Assumes nothing.
+--
+--   countsOf level l       the twelve counts of the capture l, in the order in which they are printed
+--   wholeCounts level l    the same as they are gathered: each stops where it is too large for every line
+--
+-- "Octets before the first flag, flags, octets in reported stretches, octets after the last flag, reports of each kind, DATA, DACK and repeats."
+use Prim.Native.Nat.{ℕ, suc, _+_}
+use mathlib.Core.Bool.{Bool, true, false, cond}
+use mathlib.Core.List.{List, [], _∷_, _++_}
+use lib.Dec.{eqb}
+use lib.ListN.{length}
+use Rattle.capture.specs.Whole.{before, flags, after}
+use Rattle.dlc_packet.specs.Numbers.{modulus}
+use Rattle.dlc_packet.specs.Packet.{kindOf}
+use Rattle.dlc_packet.specs.declared.Kind.{Kind}
+use Rattle.dlc_packet.specs.declared.Kind.the-variants.{Invalid, Reset, ResetAck, Data, Dack}
+use Rattle.framing.specs.Reports.{Reported, afterFlag, segments, reportsOfSegment, reportsOf}
+use Rattle.qaft.specs.Answers.{done, frame, aborted, long, short, badCheck}
+use Rattle.qaft.specs.Escape.{flag}
+use Rattle.qaft_report.specs.Answer.{reportNumber}
+use Rattle.qaft_report.specs.declared.Report.{Report}
+use Rattle.qaft_rules.specs.Rules.{rules}
+use Rattle.sheet.specs.Tallies.{stopped}
+use Rattle.sheet.specs.declared.Counts.{Counts}
+
+-- ---- octets: raw octets of the segments that gave a report
+abbrev pub octetsOf : (s : List ℕ) → List (Reported Report) → ℕ
+octetsOf s [] = 0
+octetsOf s (r ∷ rs) = length s
+
+unfoldable pub octetsReported : (level : ℕ) → List (List ℕ) → ℕ
+octetsReported level [] = 0
+octetsReported level (s ∷ ss) = octetsOf s (reportsOfSegment (rules level) s) + octetsReported level ss
+
+-- ---- reports: how many have a property
+unfoldable pub countOf : (Reported Report → Bool) → List (Reported Report) → ℕ
+countOf p [] = 0
+countOf p (r ∷ rs) = cond (p r) (suc (countOf p rs)) (countOf p rs)
+
+-- the kind by its number
+abbrev pub isKind : (k : ℕ) → Reported Report → Bool
+isKind k r = eqb (reportNumber (r .report)) k
+
+-- ---- packets: "frames whose data is such a packet and wouldn't answer 23"; a report that is no frame shows no octets, and these are no packet
+abbrev pub isData : Kind → Bool
+isData Invalid = false
+isData Reset = false
+isData ResetAck = false
+isData (Data x) = true
+isData (Dack x) = false
+
+abbrev pub isDack : Kind → Bool
+isDack Invalid = false
+isDack Reset = false
+isDack ResetAck = false
+isDack (Data x) = false
+isDack (Dack x) = true
+
+abbrev pub hasData : Reported Report → Bool
+hasData r = isData (kindOf (r .octets))
+
+abbrev pub hasDack : Reported Report → Bool
+hasDack r = isDack (kindOf (r .octets))
+
+-- ---- repeats: "a DATA packet whose number equals that of the DATA before it in the same capture"
+-- the number of the last DATA of a list; before any it is 16, which no DATA has
+abbrev pub none : ℕ
+none = modulus
+
+abbrev pub numberAfter : (x : ℕ) → Kind → ℕ
+numberAfter x Invalid = x
+numberAfter x Reset = x
+numberAfter x ResetAck = x
+numberAfter x (Data y) = y
+numberAfter x (Dack y) = x
+
+unfoldable pub lastFrom : (x : ℕ) → List (Reported Report) → ℕ
+lastFrom x [] = x
+lastFrom x (r ∷ rs) = lastFrom (numberAfter x (kindOf (r .octets))) rs
+
+abbrev pub isNumbered : (x : ℕ) → Kind → Bool
+isNumbered x Invalid = false
+isNumbered x Reset = false
+isNumbered x ResetAck = false
+isNumbered x (Data y) = eqb y x
+isNumbered x (Dack y) = false
+
+-- whether r is a repeat where the reports ps came before it
+abbrev pub isRepeat : (ps : List (Reported Report)) → Reported Report → Bool
+isRepeat ps r = isNumbered (lastFrom none ps) (kindOf (r .octets))
+
+-- the repeats among rs, which came behind ps
+unfoldable pub repeatsAfter : (ps rs : List (Reported Report)) → ℕ
+repeatsAfter ps [] = 0
+repeatsAfter ps (r ∷ rs) = let n = repeatsAfter (ps ++ (r ∷ [])) rs in cond (isRepeat ps r) (suc n) n
+
+-- ---- all counts
+unfoldable pub countsOf : (level : ℕ) (l : List ℕ) → List ℕ
+countsOf level l =
+    let rs = reportsOf (rules level) l in
+    before flag l
+    ∷ flags flag l
+    ∷ octetsReported level (segments (rules level) (afterFlag (rules level) l))
+    ∷ after flag l
+    ∷ countOf (isKind frame) rs
+    ∷ countOf (isKind aborted) rs
+    ∷ countOf (isKind long) rs
+    ∷ countOf (isKind short) rs
+    ∷ countOf (isKind badCheck) rs
+    ∷ countOf hasData rs
+    ∷ countOf hasDack rs
+    ∷ repeatsAfter [] rs
+    ∷ []
+
+-- what the capture adds to a line, as it is gathered
+abbrev pub wholeCounts : (level : ℕ) (l : List ℕ) → Counts
+wholeCounts level l = record { number = done; counts = stopped (countsOf level l) }
