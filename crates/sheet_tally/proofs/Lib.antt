@@ -1,0 +1,4 @@
+pub mod Judging
+pub mod Passing
+pub mod Stopped
+pub mod Sums
