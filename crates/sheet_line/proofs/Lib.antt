@@ -1,0 +1,5 @@
+pub mod Cases
+pub mod Counts
+pub mod Line
+pub mod Shape
+pub mod Shares
