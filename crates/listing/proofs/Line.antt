@@ -1,18 +1,14 @@
 -- Laws of the lines of a listing: their lengths, and the pieces of a line put down one after another. Assumes nothing.
 use Prim.Native.Nat.{ℕ, _+_, _*_, _-_, _≤_, _<_}
-use mathlib.Core.Bool.{Bool, true, false}
 use mathlib.Core.List.{List, [], _∷_, _++_}
 use mathlib.Core.Path.{_≡_, refl, sym, ap, ap₂, _∙_, subst}
 use native.Mathlib.Nat.{add-zero}
 use native.Mathlib.Omega.{arith}
 use types.Run.{OneOf, miss}
 use denote.Enum.Declared.{tagOf}
-use borrow.Author.Tests.{le-leb, lt-leb, leb-true, leb-false}
-use lib.Dec.{leb}
 use lib.ListN.{length, take, drop, length-append}
-use lib.Seq.{sets}
 use Rattle.listing.proofs.Entry as entries
-use Rattle.listing.specs.Line.{name, details, reportLine, lineRoom, shortLine}
+use Rattle.listing.specs.Line.{name, details, reportLine, lineRoom}
 use Rattle.listing.specs.Names.{names, nameStart, nameEnd}
 use Rattle.listing.specs.declared.Entry.{Entry}
 use Rattle.listing.specs.declared.Entry.the-variants.{Frame, Aborted, Long, Short, BadCheck, BadEscape, Skipped}

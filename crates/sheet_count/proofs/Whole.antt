@@ -1,7 +1,7 @@
 -- The cases of `count`: a capture in one chunk is counted whole. Assumes nothing.
 use Prim.Native.Nat.{ℕ, _≤_, _<_}
 use mathlib.Core.List.{List, [], _∷_, flatten, append-nil}
-use mathlib.Core.Path.{_≡_, refl, sym, ap, _∙_}
+use mathlib.Core.Path.{_≡_, ap, _∙_}
 use borrow.Author.Tests.{lt-ltb, le-ltb}
 use lib.ListN.{length}
 use Rattle.qaft.specs.Answers.{badLevel}
@@ -12,7 +12,7 @@ use Rattle.sheet_counter.specs.Count.{freshCounter, count, countsIn}
 use Rattle.sheet_counter.specs.declared.Counted.{Counted}
 use Rattle.sheet_counter.specs.declared.Counter.{Counter}
 use Rattle.sheet_laws.proofs.Theorems.{counts-the-capture}
-use Rattle.sheet_laws.specs.Caller.{countChunks, countedIn}
+use Rattle.sheet_laws.specs.Caller.{countChunks}
 use Rattle.sheet_rules.specs.Counts.{wholeCounts}
 
 module _ (level : ℕ) (l : List ℕ) where

@@ -1,9 +1,6 @@
 // Reports and packets found in a capture so far (specs/Found).
-ghost use mathlib.Core.Bool.{cond};
 ghost use mathlib.Core.Path.{_≡_};
-ghost use Rattle.counter.specs.Counted.{counted};
-ghost use Rattle.sheet.specs.Limits.{tooLarge};
-ghost use Rattle.sheet_rules.specs.Counts.{isData, isDack, isNumbered, numberAfter, none};
+ghost use Rattle.sheet_rules.specs.Counts.{isData, isDack, isNumbered, numberAfter};
 ghost use Rattle.sheet_counter.specs.Found.{freshFound, foundWith, more};
 use dlc_packet::Kind;
 use qaft_report::Report;

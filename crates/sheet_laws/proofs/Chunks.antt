@@ -3,7 +3,6 @@ use Prim.Native.Nat.{ℕ, _≤_}
 use mathlib.Core.List.{List, [], _∷_, _++_, flatten}
 use mathlib.Core.Path.{_≡_, refl, sym, ap, _∙_}
 use native.Mathlib.Omega.{arith}
-use lib.ListN.{length}
 use Rattle.capture.proofs.Counting.{countAll-++}
 use Rattle.capture.specs.Octets.{countAll}
 use Rattle.capture.specs.declared.Octets.{Octets}
@@ -17,7 +16,7 @@ use Rattle.line.proofs.Trace.{trace-++}
 use Rattle.line.specs.Gather.{Gathered, makeAll}
 use Rattle.line.specs.Trace.{Trace, trace, noEvent, andThen}
 use Rattle.qaft.specs.Escape.{flag}
-use Rattle.qaft.specs.Limits.{maxLevel, maxSegment}
+use Rattle.qaft.specs.Limits.{maxLevel}
 use Rattle.qaft_laws.proofs.Rules.{lawful}
 use Rattle.qaft_report.specs.declared.Report.{Report}
 use Rattle.qaft_rules.specs.Rules.{rules}

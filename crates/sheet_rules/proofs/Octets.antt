@@ -9,10 +9,9 @@ use lib.ListN.{length}
 use Rattle.capture.specs.Whole.{closed, between}
 use Rattle.framing.proofs.PlainReading.{segments-first}
 use Rattle.framing.specs.Flags.{hasFlag}
-use Rattle.framing.specs.Reports.{Reported, atFront, afterFlag, segments, unskipped, reportsOfOctets, reportsOfSegment}
+use Rattle.framing.specs.Reports.{atFront, afterFlag, segments, unskipped, reportsOfOctets, reportsOfSegment}
 use Rattle.framing.specs.Stored.{upToFlag}
 use Rattle.qaft.specs.Escape.{flag}
-use Rattle.qaft_report.specs.declared.Report.{Report}
 use Rattle.qaft_rules.specs.Rules.{rules}
 use Rattle.sheet_rules.specs.Counts.{octetsOf, octetsReported}
 

@@ -13,7 +13,7 @@ use Rattle.dlc_packet.specs.declared.Kind.{Kind}
 use Rattle.dlc_packet.specs.declared.Kind.the-variants.{Invalid, Reset, ResetAck, Data, Dack}
 use Rattle.framing.specs.Reports.{Reported}
 use Rattle.qaft_report.specs.declared.Report.{Report}
-use Rattle.sheet_rules.specs.Counts.{none, numberAfter, lastFrom, isNumbered, isRepeat, repeatsAfter}
+use Rattle.sheet_rules.specs.Counts.{none, numberAfter, lastFrom, isNumbered, repeatsAfter}
 use Rattle.sheet_rules.specs.Repeats.{numberBefore, dataNumbers, equalsBefore}
 
 -- the repeats among rs where the last DATA before them had the number x

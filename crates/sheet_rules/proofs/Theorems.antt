@@ -1,7 +1,7 @@
 -- Theorems on the counts of a whole capture; docs/THEOREMS.md says them in words. Assumes nothing.
 use Prim.Native.Nat.{ℕ, _+_}
 use mathlib.Core.List.{List}
-use mathlib.Core.Path.{_≡_, _∙_}
+use mathlib.Core.Path.{_≡_}
 use native.Mathlib.Omega.{arith}
 use lib.ListN.{length, getD}
 use Rattle.capture.proofs.Flags.{parts-add-up}

@@ -1,5 +1,5 @@
 -- `sheet_count::count` meets its contract: the refusal, and a capture in one chunk. Assumes nothing.
-use Prim.Native.Nat.{ℕ, _≤_}
+use Prim.Native.Nat.{ℕ}
 use mathlib.Core.Path.{_∙_}
 use native.Mathlib.Omega.{arith}
 use borrow.Author.Needs.{needs}

@@ -10,7 +10,6 @@ use Rattle.deframer.specs.Scan.{opened, scanned}
 use Rattle.deframer.specs.declared.Rule.{Rule}
 use Rattle.framing.specs.Rules.{State}
 use Rattle.line.specs.Gather.{Gathered, later}
-use Rattle.qaft.specs.Limits.{maxSegment}
 use Rattle.qaft_read.proofs.SharedRule.{rule-rules}
 use Rattle.qaft_read.specs.Scanned.{rule}
 use Rattle.qaft_report.specs.declared.Report.{Report}

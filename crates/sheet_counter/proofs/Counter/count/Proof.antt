@@ -1,5 +1,4 @@
 -- `Counter::count` meets its contract: each refusal, and a chunk that is counted. Assumes nothing.
-use mathlib.Core.Path.{sym, ap, _∙_}
 use borrow.Author.Needs.{needs}
 use Rattle.sheet_counter.proofs.Calls.{count-badLevel, count-bufferTooSmall, count-refused, count-made}
 use Rattle.sheet_counter.proofs.Counter.count.Statement.{statement}

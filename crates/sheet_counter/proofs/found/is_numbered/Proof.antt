@@ -1,7 +1,6 @@
 -- `found::is_numbered` meets its contract: case by case. Assumes nothing.
 use mathlib.Core.Path.{sym, ap}
 use borrow.Author.Needs.{needs}
-use Rattle.dlc_packet.specs.declared.Kind.{Kind}
 use Rattle.sheet_counter.proofs.found.is_numbered.Statement.{statement}
 use Rattle.sheet_counter.proofs.found.is_numbered.Tie as tie
 use Rattle.sheet_rules.specs.Counts.{isNumbered}

@@ -1,5 +1,4 @@
 -- `found::more` meets its contract. Assumes nothing.
-use mathlib.Core.Path.{_∙_}
 use borrow.Author.Needs.{needs}
 use Rattle.sheet_counter.proofs.found.more.Statement.{statement}
 use Rattle.sheet_counter.proofs.found.more.Tie as tie
