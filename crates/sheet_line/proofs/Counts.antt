@@ -12,7 +12,8 @@ use Rattle.octets.proofs.Summing.{sum-end, sum-next}
 use Rattle.octets.specs.Put.{putInto, putEnd}
 use Rattle.octets.specs.Sum.{sum}
 use Rattle.sheet.specs.Limits.{countsLong}
-use Rattle.sheet_line.specs.Line.{reportsEnd, reportsIn, badChecksIn, share, countsText, countsRoom}
+use Rattle.sheet.specs.Places.{reportsEnd}
+use Rattle.sheet_line.specs.Line.{reportsIn, badChecksIn, share, countsText, countsRoom}
 use Rattle.text.proofs.Putting.{placed, placed-++, room-behind, placed-then}
 use Rattle.text.proofs.Text.{length-decimal}
 use Rattle.text.specs.Placed.{Placed}

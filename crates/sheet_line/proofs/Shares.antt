@@ -10,7 +10,8 @@ use lib.Seq.{getD-drop, getD-take}
 use Rattle.fraction.proofs.Terms.{lowestOf-lowest, lowestOf-ratio, lowestOf-zero}
 use Rattle.fraction.specs.Fraction.{none}
 use Rattle.octets.specs.Sum.{sum}
-use Rattle.sheet_line.specs.Line.{reportsFrom, reportsEnd, badChecksAt, reportsIn, badChecksIn, share}
+use Rattle.sheet.specs.Places.{framesAt, badChecksAt, reportsEnd}
+use Rattle.sheet_line.specs.Line.{reportsIn, badChecksIn, share}
 
 getD-sum : (xs : List ℕ) (i : ℕ) → getD xs i 0 ≤ sum xs
 unfolding sum
@@ -24,8 +25,8 @@ module _ (cs : List ℕ) where
   badChecks-among =
       omega (
         arith,
-        getD-sum (drop reportsFrom (take reportsEnd cs)) (badChecksAt - reportsFrom),
-        getD-drop reportsFrom (take reportsEnd cs) (badChecksAt - reportsFrom) 0,
+        getD-sum (drop framesAt (take reportsEnd cs)) (badChecksAt - framesAt),
+        getD-drop framesAt (take reportsEnd cs) (badChecksAt - framesAt) 0,
         getD-take reportsEnd cs badChecksAt 0 (omega arith),
       )
 

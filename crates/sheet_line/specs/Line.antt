@@ -12,21 +12,12 @@ use Rattle.fraction.specs.Fraction.{lowestOf}
 use Rattle.fraction.specs.declared.Fraction.{Fraction}
 use Rattle.octets.specs.Sum.{sum}
 use Rattle.sheet.specs.Limits.{countsLong}
+use Rattle.sheet.specs.Places.{framesAt, badChecksAt, reportsEnd}
 use Rattle.text.specs.Text.{ascii, decimal, maxDigits}
-
--- the places of the counts of reports: the first of them, the one behind the last, and bad checks
-abbrev pub reportsFrom : ℕ
-reportsFrom = 4
-
-abbrev pub reportsEnd : ℕ
-reportsEnd = 9
-
-abbrev pub badChecksAt : ℕ
-badChecksAt = 8
 
 -- all reports, of whatever kind
 abbrev pub reportsIn : (cs : List ℕ) → ℕ
-reportsIn cs = sum (drop reportsFrom (take reportsEnd cs))
+reportsIn cs = sum (drop framesAt (take reportsEnd cs))
 
 abbrev pub badChecksIn : (cs : List ℕ) → ℕ
 badChecksIn cs = getD cs badChecksAt 0

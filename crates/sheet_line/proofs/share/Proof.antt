@@ -5,15 +5,16 @@ use native.Mathlib.Omega.{arith}
 use borrow.Author.Needs.{needs}
 use lib.ListN.{take, drop}
 use Rattle.octets.specs.Sum.{sum}
+use Rattle.sheet.specs.Places.{framesAt, reportsEnd}
 use Rattle.sheet_line.proofs.Counts.{reports-next, reports-end, share-of}
 use Rattle.sheet_line.proofs.Shape.{counts-long}
 use Rattle.sheet_line.proofs.share.Statement.{statement}
 use Rattle.sheet_line.proofs.share.Tie as tie
-use Rattle.sheet_line.specs.Line.{reportsFrom, reportsEnd, reportsIn}
+use Rattle.sheet_line.specs.Line.{reportsIn}
 
 abbrev Inv-loop : tie.InvT-loop
 Inv-loop counts reports₀ i₀ reports i =
-    (reportsFrom ≤ i)
+    (framesAt ≤ i)
     × (i ≤ reportsEnd)
     × (reports ≤ i * 2 ^ 32)
     × (reports + sum (drop i (take reportsEnd counts)) ≡ reportsIn counts)
