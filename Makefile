@@ -1,7 +1,7 @@
 # The library for C programs, and the programs with their man pages: make, make install [PREFIX=..] [DESTDIR=..], make uninstall,
 # make check (the gate). Archive and programs are built, and so proved, where a file of the crates is newer; that needs the Rattle
 # toolchain (rt).
-VERSION = 0.3.0
+VERSION = 0.4.0
 PREFIX = /usr/local
 INCLUDEDIR = $(PREFIX)/include
 LIBDIR = $(PREFIX)/lib
@@ -10,7 +10,7 @@ MANDIR = $(PREFIX)/share/man
 
 ARCHIVE = target/libhasfandur.a
 # its members, each a crate that is compiled by itself: a loop that framings share is then made for each of them
-MEMBERS = hasfandur hasfandur_kiss hasfandur_conversion
+MEMBERS = hasfandur hasfandur_kiss hasfandur_conversion hasfandur_sheet
 # each has a page docs/man/NAME.1
 PROGRAMS = list_level0 list_level1 list_kiss qaft_to_kiss qaft_to_kiss_level1 kiss_to_qaft kiss_to_qaft_level1
 BUILT = $(PROGRAMS:%=target/bin/%)

@@ -86,11 +86,19 @@ FIELD(hasfandur_reading, supplementary, 40, 16);
 FIELD(hasfandur_reading, payload, 56, 16);
 FIELD(hasfandur_reading, unchecked, 72, 1);
 
+static_assert(sizeof(hasfandur_counts) == 104, "hasfandur_counts");
+FIELD(hasfandur_counts, number, 0, 1);
+FIELD(hasfandur_counts, counts, 8, 96);
+
+static_assert(sizeof(hasfandur_tally) == 48, "hasfandur_tally");
+FIELD(hasfandur_tally, counts, 0, 48);
+
 static_assert(HASFANDUR_QAFT_FRAME_SIZE(HASFANDUR_QAFT_MAX_DATA) == HASFANDUR_QAFT_MAX_FRAME, "longest QAFT frame");
 static_assert(HASFANDUR_KISS_FRAME_SIZE(HASFANDUR_QAFT_MAX_DATA) == HASFANDUR_KISS_MAX_FRAME, "longest KISS frame");
 static_assert(HASFANDUR_DLC_PACKET_SIZE(HASFANDUR_DLC_MAX_PAYLOAD) == HASFANDUR_DLC_MAX_PACKET, "longest packet");
 static_assert(HASFANDUR_DLC_SLOTS * HASFANDUR_DLC_MAX_PACKET == HASFANDUR_DLC_REPLY_SIZE, "reply");
 static_assert(HASFANDUR_AFP_FRAME_SIZE(HASFANDUR_AFP_MIN_HEADER - 6, 0, 0) == HASFANDUR_AFP_MIN_FRAME, "shortest AFP frame");
+static_assert(HASFANDUR_SHEET_REPEATS + 1 == HASFANDUR_SHEET_COUNTS, "counts of a line");
 
 int main(void)
 {

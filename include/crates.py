@@ -29,7 +29,7 @@ def constant(crate, name):
         return constant(owner, name)
     if m := re.search(rf"^use (?!crate::)(\w+)::{owner or name};$", text, re.M):
         return constant(m.group(1), name)
-    if m := re.search(rf"^ *pub const {name}: \w+ = (.*);$", text, re.M):
+    if m := re.search(rf"^ *(?:pub )?const {name}: \w+ = (.*);$", text, re.M):
         return value(m.group(1), lambda w: constant(crate, w))
     raise Wrong(f"no constant {name} in crates/{crate}/src")
 

@@ -3,9 +3,10 @@
  *
  * `make install` puts it where `pkg-config hasfandur` finds it; or link with libhasfandur.a. No other library and no flag is
  * needed. docs/C.md has a short example of each call.
- * Each function is proved to meet its contract in crates/hasfandur, for every argument that a C program can pass as its comment
- * says: a pointer to `length` octets that are the caller's, and that no other argument overlaps where they are written. That
- * this header says of them what is proved is compared and tested (numbers, types, every call), not proved.
+ * Each function is proved to meet its contract in crates/hasfandur and the crates whose names begin with hasfandur_, for every
+ * argument that a C program can pass as its comment says: a pointer to `length` octets, or to as many records as is said, that are the
+ * caller's, and that no other argument overlaps where they are written. That this header says of them what is proved is compared and
+ * tested (numbers, types, every call), not proved.
  * No function allocates, keeps a pointer, or fails: what it can't do it refuses by a number, and a refusal writes nothing.
  * A pointer with length 0 is not read, and may be null.
  */
@@ -22,8 +23,8 @@ extern "C" {
 
 /* The version, and the same as one number to compare: 10000 for the first part, 100 for the second. */
 /* begin version: written by include/numbers */
-#define HASFANDUR_VERSION "0.3.0"
-#define HASFANDUR_VERSION_NUMBER 300
+#define HASFANDUR_VERSION "0.4.0"
+#define HASFANDUR_VERSION_NUMBER 400
 /* end version */
 
 /* On calls that give a state or a link back: who drops it goes on with the old one. */
@@ -35,7 +36,7 @@ extern "C" {
 
 /* The numbers given back. Where several refusals apply the first is given: QAFT writer 6, 1, 2, 3; QAFT reader 6, 4, 5; KISS
  * writer 1, 2, 64; KISS reader 4, 5; conversions 6, then 64 to KISS and 3 to QAFT; link 27, 26, 23, 21, 20, 22, 24; AFP reader 30
- * upward; AFP writer 33, 35, 36, 38, 34, 40, 41. */
+ * upward; AFP writer 33, 35, 36, 38, 34, 40, 41; line sheet 6, 50, 51. */
 /* begin numbers: written by include/numbers */
 enum hasfandur_number {
     HASFANDUR_DONE = 0, /* done */
@@ -44,7 +45,7 @@ enum hasfandur_number {
     HASFANDUR_QAFT_OUT_TOO_SMALL = 3, /* QAFT writer and conversion to QAFT: `out` is shorter than this very frame or line */
     HASFANDUR_QAFT_BUFFER_TOO_SMALL = 4, /* QAFT reader, KISS too: `buffer` is under 2,561 octets */
     HASFANDUR_QAFT_BAD_STATE = 5, /* QAFT reader, KISS too: a state that no line leads to */
-    HASFANDUR_QAFT_BAD_LEVEL = 6, /* QAFT writer, reader and conversions: level not 0 or 1 */
+    HASFANDUR_QAFT_BAD_LEVEL = 6, /* QAFT writer, reader, conversions and line sheet: level not 0 or 1 */
     HASFANDUR_QAFT_FRAME = 10, /* QAFT reader's report, KISS too, no refusal: a frame */
     HASFANDUR_QAFT_ABORTED = 11, /* QAFT reader's report, no refusal: a 7D stands before the flag */
     HASFANDUR_QAFT_LONG = 12, /* QAFT reader's report, no refusal: over 2,561 octets */
@@ -71,6 +72,8 @@ enum hasfandur_number {
     HASFANDUR_AFP_BAD_HEADER_SUM = 39, /* AFP reader: header sum */
     HASFANDUR_AFP_BAD_DATA = 40, /* AFP reader and writer: over 2,304 data octets */
     HASFANDUR_AFP_OUT_TOO_SMALL = 41, /* AFP writer: `out` is shorter than this very frame */
+    HASFANDUR_SHEET_NO_LINE = 50, /* line sheet: line number of 64 or more, or past the table */
+    HASFANDUR_SHEET_COUNT_TOO_LARGE = 51, /* line sheet: a count of the line's record would pass 32 bits */
     HASFANDUR_KISS_BAD_ESCAPE = 60, /* KISS reader's report, no refusal: DB before anything but DC or DD */
     HASFANDUR_KISS_SHORT = 61, /* KISS reader's report, no refusal: a type octet and no payload */
     HASFANDUR_KISS_LONG = 62, /* KISS reader's report, no refusal: over 2,561 octets */
@@ -79,7 +82,7 @@ enum hasfandur_number {
 };
 /* end numbers */
 
-/* Sizes, in octets but for the slots. */
+/* Sizes, in octets but for slots, lines and counts. */
 /* begin sizes: written by include/numbers */
 #define HASFANDUR_QAFT_MAX_DATA 2560 /* data of a QAFT frame, at least 1 */
 #define HASFANDUR_QAFT_MAX_SEGMENT 2561 /* the QAFT reader's `buffer`, at least: data and check of the longest frame */
@@ -95,6 +98,9 @@ enum hasfandur_number {
 #define HASFANDUR_AFP_MIN_HEADER 12 /* the shortest AFP header */
 #define HASFANDUR_AFP_MAX_HEADER 254 /* the longest */
 #define HASFANDUR_AFP_MAX_DATA 2304 /* data of an AFP frame, which may be none */
+#define HASFANDUR_SHEET_LINES 64 /* lines of a sheet: a line number is below this */
+#define HASFANDUR_SHEET_COUNTS 12 /* counts of a line */
+#define HASFANDUR_SHEET_MAX_LINE 315 /* the line printer's `out`, at least: room for every printed line */
 /* end sizes */
 
 /* An `out` of this size has room for the QAFT frame of n data octets, whatever they are; one for the KISS frame of n payload octets;
@@ -409,6 +415,66 @@ hasfandur_afp_written hasfandur_afp_write(uint8_t protocol, const uint8_t *stati
                                           const uint8_t *supplementary, size_t supplementary_length, const uint8_t *data,
                                           size_t data_length, uint8_t *out, size_t out_length);
 
+/*
+ * The monthly line sheet: what captures of QAFT lines count, added up line by line.
+ *
+ * The counts stand in this order, in which they are printed, in what a capture counts and in a line's record. Octets are those of the
+ * line, escapes not undone, so what a capture adds to the four octet counts adds up to its length. An empty segment (two flags side by
+ * side) gives no report and has no octets. DATA and DACK are frames whose data is such a packet, and would not be refused on arrival by
+ * HASFANDUR_DLC_BAD_PACKET. A repeat is a DATA whose number equals that of the DATA before it in the same capture, whatever was
+ * reported between them.
+ */
+/* begin counts: written by include/numbers */
+enum hasfandur_sheet_place {
+    HASFANDUR_SHEET_BEFORE = 0, /* octets before the first flag; all where there is none */
+    HASFANDUR_SHEET_FLAGS = 1, /* flags */
+    HASFANDUR_SHEET_IN_SEGMENTS = 2, /* octets in reported segments */
+    HASFANDUR_SHEET_AFTER = 3, /* octets after the last flag */
+    HASFANDUR_SHEET_FRAMES = 4, /* reports HASFANDUR_QAFT_FRAME */
+    HASFANDUR_SHEET_ABORTED = 5, /* reports HASFANDUR_QAFT_ABORTED */
+    HASFANDUR_SHEET_LONG = 6, /* reports HASFANDUR_QAFT_LONG */
+    HASFANDUR_SHEET_SHORT = 7, /* reports HASFANDUR_QAFT_SHORT */
+    HASFANDUR_SHEET_BAD_CHECKS = 8, /* reports HASFANDUR_QAFT_BAD_CHECK */
+    HASFANDUR_SHEET_DATA = 9, /* DATA packets */
+    HASFANDUR_SHEET_DACK = 10, /* DACK packets */
+    HASFANDUR_SHEET_REPEATS = 11 /* DATA packets with the number of the DATA before them */
+};
+/* end counts */
+
+/* What a capture counts: HASFANDUR_DONE and the counts, each of which stops at 2^32, since that is too large for every record. On a
+ * refusal every count is 0. */
+typedef struct hasfandur_counts {
+    uint8_t number;
+    uint64_t counts[HASFANDUR_SHEET_COUNTS];
+} hasfandur_counts;
+
+/* A line's record: the counts of all captures that were added to it. Zeroed before the first. */
+typedef struct hasfandur_tally {
+    uint32_t counts[HASFANDUR_SHEET_COUNTS];
+} hasfandur_tally;
+
+/* Counts a whole capture at a level. Refusal: HASFANDUR_QAFT_BAD_LEVEL. */
+hasfandur_counts hasfandur_sheet_count(uint8_t level, const uint8_t *capture, size_t capture_length);
+
+/*
+ * Counts a whole capture and adds it to record number `line`, from 0, of a table of `lines` records. The table may be shorter than
+ * HASFANDUR_SHEET_LINES records, or longer: those past number 63 are never changed.
+ *
+ * Refusals, the first that applies: HASFANDUR_QAFT_BAD_LEVEL; HASFANDUR_SHEET_NO_LINE (`line` is not under HASFANDUR_SHEET_LINES, or
+ * not under `lines`); HASFANDUR_SHEET_COUNT_TOO_LARGE (a count of the record would pass 4,294,967,295). A refusal changes no record.
+ * Otherwise HASFANDUR_DONE, and every record but the line's is as before.
+ */
+uint8_t hasfandur_sheet_tally(uint8_t level, const uint8_t *capture, size_t capture_length, size_t line, hasfandur_tally *table,
+                              size_t lines);
+
+/*
+ * Puts a record as it is printed at the front of `out`, and gives back how many octets that are: the line's number, whatever it is, the
+ * counts, and the share of bad checks in all reports as two numbers in lowest terms ("0/1" where there is no bad check), each in
+ * decimal with one space between; a newline, and no 0 behind it. Octets of `out` behind the line are as before.
+ * Where `out` has under HASFANDUR_SHEET_MAX_LINE octets 0 is given back and nothing is written, whatever the line's length.
+ */
+size_t hasfandur_sheet_line(size_t line, hasfandur_tally tally, uint8_t *out, size_t out_length);
+
 /* The name of a number given back, for logs: what stands behind HASFANDUR_. */
 /* begin names: written by include/numbers */
 static inline const char *hasfandur_number_name(uint8_t number)
@@ -480,6 +546,10 @@ static inline const char *hasfandur_number_name(uint8_t number)
         return "AFP_BAD_DATA";
     case HASFANDUR_AFP_OUT_TOO_SMALL:
         return "AFP_OUT_TOO_SMALL";
+    case HASFANDUR_SHEET_NO_LINE:
+        return "SHEET_NO_LINE";
+    case HASFANDUR_SHEET_COUNT_TOO_LARGE:
+        return "SHEET_COUNT_TOO_LARGE";
     case HASFANDUR_KISS_BAD_ESCAPE:
         return "KISS_BAD_ESCAPE";
     case HASFANDUR_KISS_SHORT:

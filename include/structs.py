@@ -4,7 +4,7 @@ import re
 from crates import Wrong, constant, source, value
 
 # the crates whose functions make the archive
-ARCHIVE = ["hasfandur", "hasfandur_kiss", "hasfandur_conversion"]
+ARCHIVE = ["hasfandur", "hasfandur_kiss", "hasfandur_conversion", "hasfandur_sheet"]
 
 # structs of the header, and of the crates; a field that has another name in the crate
 STRUCTS = [
@@ -21,8 +21,12 @@ STRUCTS = [
     ("hasfandur_dlc_outcome", ["dlc_plain::PlainOutcome"], {}),
     ("hasfandur_part", ["afp::Part"], {}),
     ("hasfandur_reading", ["afp::Reading"], {}),
+    ("hasfandur_counts", ["sheet::Counts"], {}),
+    ("hasfandur_tally", ["sheet::Tally"], {}),
 ]
-C_TYPES = {"u8": "uint8_t", "u16": "uint16_t", "u64": "uint64_t", "usize": "size_t", "bool": "bool"}
+C_TYPES = {"u8": "uint8_t", "u16": "uint16_t", "u32": "uint32_t", "u64": "uint64_t", "usize": "size_t", "bool": "bool"}
+# octets of each on a machine with 64-bit size_t, and its alignment
+OCTETS = {"uint8_t": 1, "bool": 1, "uint16_t": 2, "uint32_t": 4, "uint64_t": 8, "size_t": 8}
 
 LAYOUT_HEAD = '''/*
  * Sizes and offsets of the header's structs on a machine with 64-bit size_t, as the crates' structs have them, and what the size
@@ -41,6 +45,7 @@ static_assert(HASFANDUR_KISS_FRAME_SIZE(HASFANDUR_QAFT_MAX_DATA) == HASFANDUR_KI
 static_assert(HASFANDUR_DLC_PACKET_SIZE(HASFANDUR_DLC_MAX_PAYLOAD) == HASFANDUR_DLC_MAX_PACKET, "longest packet");
 static_assert(HASFANDUR_DLC_SLOTS * HASFANDUR_DLC_MAX_PACKET == HASFANDUR_DLC_REPLY_SIZE, "reply");
 static_assert(HASFANDUR_AFP_FRAME_SIZE(HASFANDUR_AFP_MIN_HEADER - 6, 0, 0) == HASFANDUR_AFP_MIN_FRAME, "shortest AFP frame");
+static_assert(HASFANDUR_SHEET_REPEATS + 1 == HASFANDUR_SHEET_COUNTS, "counts of a line");
 
 int main(void)
 {
@@ -79,7 +84,7 @@ def layout(name):
     """Size, alignment and (field, offset, size) of a struct on a machine with 64-bit size_t."""
     at, align, found = 0, 1, []
     for kind, field, many in dict((n, fields(s[0], f)) for n, s, f in STRUCTS)[name]:
-        size, step = {"uint8_t": (1, 1), "bool": (1, 1), "uint16_t": (2, 2), "uint64_t": (8, 8), "size_t": (8, 8)}.get(kind) or layout(kind)[:2]
+        size, step = (OCTETS[kind], OCTETS[kind]) if kind in OCTETS else layout(kind)[:2]
         at += -at % step
         found.append((field, at, size * (many or 1)))
         at, align = at + size * (many or 1), max(align, step)
@@ -100,14 +105,20 @@ def check_structs(header, known):
         raise Wrong(f"structs of the header that are not in the table: {more}")
 
 
+def parameter(kind, crate):
+    """The types that C passes for one of the code's; a slice crosses as a pointer and a length."""
+    if m := re.fullmatch(r"&(mut )?\[([\w:]+)\]", kind):
+        return [f"{'' if m.group(1) else 'const '}{c_type(m.group(2), crate)} *", "size_t"]
+    return [c_type(kind, crate)]
+
+
 def check_functions(header):
-    """Types of what each function gives back and takes; a slice crosses as a pointer and a length."""
-    slices = {"&[u8]": ["const uint8_t *", "size_t"], "&mut [u8]": ["uint8_t *", "size_t"]}
+    """Types of what each function gives back and takes."""
     ours = {}
     for crate in ARCHIVE:
         for name, takes, gives in re.findall(r'^pub extern "C" fn (\w+)\((.*?)\) -> ([\w:]+)', source(crate), re.M | re.S):
             kinds = [w.split(": ")[1].strip() for w in takes.split(",") if ": " in w]
-            ours[name] = [c_type(gives, crate)] + [t for k in kinds for t in slices.get(k) or [c_type(k, crate)]]
+            ours[name] = [c_type(gives, crate)] + [t for k in kinds for t in parameter(k, crate)]
     text = re.sub(r"/\*.*?\*/", "", header, flags=re.S).replace("hasfandur_afp_written", "hasfandur_written")
     theirs = {}
     for gives, name, takes in re.findall(r"^(?:HASFANDUR_MUST_USE )?(\w+) (hasfandur_\w+)\(([^)]*)\);", text, re.M):

@@ -7,6 +7,7 @@ mod link;
 mod others;
 mod qaft;
 mod row;
+mod sheet;
 
 use row::Row;
 use wrappers::archive;
@@ -36,7 +37,7 @@ fn main() {
         println!("direwolf is not there: no row has it");
     }
     println!("ns of CPU, best of {rounds}; ratio: the best other's time over ours");
-    let rows = [qaft::ROWS, kiss::ROWS, afp::ROWS, link::ROWS];
+    let rows = [qaft::ROWS, kiss::ROWS, afp::ROWS, link::ROWS, sheet::ROWS];
     for make in rows.into_iter().flatten() {
         let row: Row = make();
         row.print(rounds);

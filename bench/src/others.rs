@@ -1,5 +1,6 @@
 //! The contenders in C, with safe wrappers: plain C (c/plain.c), and packaged libraries where they are there.
 pub mod kiss;
+pub mod sheet;
 
 use crate::archive::link::{Link, Outcome};
 use second::afp::{Part, Reading};

@@ -52,7 +52,7 @@ fn reading(
 }
 
 /// The archive's reader; its state is in C's numbers.
-fn ours(from: State, chunk: &[u8], store: &mut [u8]) -> (State, Answer) {
+pub fn ours(from: State, chunk: &[u8], store: &mut [u8]) -> (State, Answer) {
     let (next, answer) = archive::qaft_read(from.into(), chunk, store);
     let state = State {
         level: next.level,

@@ -5,12 +5,19 @@ use std::hint::black_box;
 /// A contender's turn: does the work once, and gives a number that depends on all of it.
 type Turn = Box<dyn FnMut() -> usize>;
 
+struct Contender {
+    name: &'static str,
+    turn: Turn,
+    /// whether the ratio is over its time too
+    rival: bool,
+}
+
 pub struct Row {
     what: &'static str,
     unit: &'static str,
     /// units of work in a turn
     units: usize,
-    contenders: Vec<(&'static str, Turn)>,
+    contenders: Vec<Contender>,
 }
 
 impl Row {
@@ -25,34 +32,47 @@ impl Row {
             what,
             unit,
             units,
-            contenders: vec![("ours", Box::new(ours))],
+            contenders: Vec::new(),
         }
+        .with("ours", false, ours)
+    }
+
+    fn with(
+        mut self,
+        name: &'static str,
+        rival: bool,
+        turn: impl FnMut() -> usize + 'static,
+    ) -> Self {
+        let turn = Box::new(turn);
+        self.contenders.push(Contender { name, turn, rival });
+        self
     }
 
     /// Another contender, whose answer must be ours.
     pub fn beside(mut self, name: &'static str, mut turn: impl FnMut() -> usize + 'static) -> Self {
-        let ours = (self.contenders[0].1)();
+        let ours = (self.contenders[0].turn)();
         assert_eq!(turn(), ours, "{}: {name} differs", self.what);
-        self.contenders.push((name, Box::new(turn)));
-        self
+        self.with(name, true, turn)
     }
 
     /// Another contender, whose work is like ours and not the same.
     #[cfg(osmocom)]
-    pub fn beside_like(
-        mut self,
-        name: &'static str,
-        turn: impl FnMut() -> usize + 'static,
-    ) -> Self {
-        self.contenders.push((name, Box::new(turn)));
-        self
+    pub fn beside_like(self, name: &'static str, turn: impl FnMut() -> usize + 'static) -> Self {
+        self.with(name, true, turn)
+    }
+
+    /// A part of our own work by itself, which is no other's: it is shown, and not in the ratio.
+    pub fn part(self, name: &'static str, turn: impl FnMut() -> usize + 'static) -> Self {
+        self.with(name, false, turn)
     }
 
     pub fn print(mut self, rounds: usize) {
         let best = self.best_times(rounds);
-        let others = best[1..].iter().copied().fold(f64::INFINITY, f64::min);
+        let timed = self.contenders.iter().zip(&best);
+        let rivals = timed.clone().filter(|(other, _)| other.rival);
+        let others = rivals.map(|(_, time)| *time).fold(f64::INFINITY, f64::min);
         print!("{:<44} ns/{:<6}", self.what, self.unit);
-        for ((name, _), time) in self.contenders.iter().zip(&best) {
+        for (Contender { name, .. }, time) in timed {
             print!("  {name} {time:.3}");
         }
         println!("  ratio {:.2}", others / best[0]);
@@ -60,11 +80,12 @@ impl Row {
 
     /// The best time of each contender, for a unit.
     fn best_times(&mut self, rounds: usize) -> Vec<f64> {
-        let turns: Vec<usize> = self.contenders.iter_mut().map(|(_, t)| enough(t)).collect();
+        let all = self.contenders.iter_mut();
+        let turns: Vec<usize> = all.map(|one| enough(&mut one.turn)).collect();
         let mut best = vec![f64::INFINITY; turns.len()];
         for _ in 0..rounds {
-            for (k, (_, turn)) in self.contenders.iter_mut().enumerate() {
-                let time = timed(turn, turns[k]) / (turns[k] * self.units) as f64;
+            for (k, one) in self.contenders.iter_mut().enumerate() {
+                let time = timed(&mut one.turn, turns[k]) / (turns[k] * self.units) as f64;
                 best[k] = best[k].min(time);
             }
         }

@@ -2,6 +2,7 @@
 //! pointers and lengths of slices, which are what the header asks for (a slice's pointer is never null, and a `&mut` slice
 //! overlaps nothing else).
 pub mod link;
+pub mod sheet;
 
 use second::afp::{Part, Reading};
 use second::kiss::{self, Converted};

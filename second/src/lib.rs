@@ -1,5 +1,6 @@
-//! The second program: QAFT, KISS and AFP written from the papers alone, apart from the proved code, so that comparing the two
-//! says something. It is written for plainness: whole lines, whole segments, vectors, no streaming.
+//! The second program: QAFT, KISS, the DLC link, AFP and the line sheet written from the papers alone, apart from the proved
+//! code, so that comparing the two says something. It is written for plainness: whole lines, whole segments, vectors, no
+//! streaming.
 #![forbid(unsafe_code)]
 
 pub mod afp;
@@ -9,6 +10,7 @@ pub mod listing;
 pub mod qaft;
 pub mod reader;
 pub mod rng;
+pub mod sheet;
 
 #[cfg(test)]
 mod numbers;

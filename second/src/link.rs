@@ -6,10 +6,10 @@ pub const PAYLOAD: usize = 256;
 /// The reply store has at least this many octets: a whole queue of the longest DATA.
 pub const REPLY: usize = QUEUE * (PAYLOAD + 1);
 
-const RESET: u8 = 0x10;
-const RESET_ACK: u8 = 0x20;
-const DATA: u8 = 0x40;
-const DACK: u8 = 0x50;
+pub const RESET: u8 = 0x10;
+pub const RESET_ACK: u8 = 0x20;
+pub const DATA: u8 = 0x40;
+pub const DACK: u8 = 0x50;
 
 #[derive(Debug, Clone, Copy, PartialEq, Eq)]
 pub enum Mode {

@@ -5,6 +5,7 @@ use crate::kiss;
 use crate::link::{self, Link, Mode};
 use crate::qaft;
 use crate::reader::{self, State};
+use crate::sheet;
 use std::collections::BTreeMap;
 
 /// The constants of the header's enums and its plain macros, by what stands behind HASFANDUR_.
@@ -220,6 +221,51 @@ fn sizes() -> Vec<(&'static str, usize)> {
     ]
 }
 
+/// Of the line sheet.
+fn sheet_numbers() -> Vec<(&'static str, usize)> {
+    let full = || vec![[u32::MAX; sheet::COUNTS]];
+    let number = |line| sheet::tally(0, &[qaft::FLAG], line, &mut full()).into();
+    vec![
+        ("SHEET_NO_LINE", number(1)),
+        ("SHEET_COUNT_TOO_LARGE", number(0)),
+        ("SHEET_LINES", sheet::LINES),
+        ("SHEET_COUNTS", sheet::COUNTS),
+        ("SHEET_MAX_LINE", sheet::MAX_LINE),
+    ]
+}
+
+/// Where each count of a line stands: counts that all differ, looked for among those that are printed.
+fn sheet_places() -> Vec<(&'static str, usize)> {
+    let counts = sheet::Counts {
+        before: 1,
+        flags: 2,
+        segments: 3,
+        after: 4,
+        reports: [10, 11, 12, 13, 14],
+        data: 5,
+        dack: 6,
+        repeats: 7,
+    };
+    let printed = counts.in_order();
+    let place = |n| printed.iter().position(|x| *x == n).expect("a count");
+    [
+        ("SHEET_BEFORE", 1),
+        ("SHEET_FLAGS", 2),
+        ("SHEET_IN_SEGMENTS", 3),
+        ("SHEET_AFTER", 4),
+        ("SHEET_FRAMES", 10),
+        ("SHEET_ABORTED", 11),
+        ("SHEET_LONG", 12),
+        ("SHEET_SHORT", 13),
+        ("SHEET_BAD_CHECKS", 14),
+        ("SHEET_DATA", 5),
+        ("SHEET_DACK", 6),
+        ("SHEET_REPEATS", 7),
+    ]
+    .map(|(name, n)| (name, place(n)))
+    .to_vec()
+}
+
 #[test]
 fn numbers_of_the_header() {
     let mut ours = qaft_numbers();
@@ -228,6 +274,8 @@ fn numbers_of_the_header() {
     ours.extend(packets_and_states());
     ours.extend(afp_numbers());
     ours.extend(sizes());
+    ours.extend(sheet_numbers());
+    ours.extend(sheet_places());
     let ours: BTreeMap<String, usize> = ours
         .into_iter()
         .map(|(name, number)| (name.to_owned(), number))

@@ -100,6 +100,30 @@ pub fn report(segment: &[u8]) -> Report {
     Report::Frame(data.to_vec())
 }
 
+/// A line cut at its flags, each of which stands alone between two parts.
+pub struct Cut<'a> {
+    pub before: &'a [u8],
+    /// what stands between two flags next to each other, empty ones too
+    pub closed: Vec<&'a [u8]>,
+    pub after: &'a [u8],
+    pub flags: usize,
+}
+
+/// Cuts a line. With no flag all octets are before.
+pub fn cut(line: &[u8]) -> Cut<'_> {
+    let segments: Vec<&[u8]> = line.split(|&x| x == FLAG).collect();
+    let (closed, after) = match segments[1..].split_last() {
+        None => (&[][..], &[][..]),
+        Some((last, closed)) => (closed, *last),
+    };
+    Cut {
+        before: segments[0],
+        closed: closed.to_vec(),
+        after,
+        flags: segments.len() - 1,
+    }
+}
+
 /// What a whole line says: its reports, and how many octets stand before the first flag and after the last.
 #[derive(Debug, PartialEq, Eq)]
 pub struct Line {
@@ -108,23 +132,19 @@ pub struct Line {
     pub after: usize,
 }
 
-/// Reads a whole line. With no flag all octets are before.
+/// Reads a whole line.
 pub fn read_line(line: &[u8]) -> Line {
-    let segments: Vec<&[u8]> = line.split(|&x| x == FLAG).collect();
-    let before = segments[0].len();
-    let (closed, after) = match segments[1..].split_last() {
-        None => (&[][..], 0),
-        Some((last, closed)) => (closed, last.len()),
-    };
+    let cut = cut(line);
     // an empty segment says nothing
-    let reports = closed
+    let reports = cut
+        .closed
         .iter()
         .filter(|s| !s.is_empty())
         .map(|s| report(s))
         .collect();
     Line {
         reports,
-        before,
-        after,
+        before: cut.before.len(),
+        after: cut.after.len(),
     }
 }

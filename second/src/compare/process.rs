@@ -14,7 +14,7 @@ pub struct Run {
 }
 
 /// A folder or file of the repository.
-fn place(name: &str) -> PathBuf {
+pub fn place(name: &str) -> PathBuf {
     Path::new(env!("CARGO_MANIFEST_DIR")).join("..").join(name)
 }
 

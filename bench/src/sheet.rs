@@ -1,0 +1,60 @@
+//! The line sheet: what a capture counts, held whole, with few octets that are escaped and with many.
+use crate::archive::sheet as archive;
+use crate::frames;
+use crate::others::sheet as others;
+use crate::qaft;
+use crate::row::Row;
+use second::link::{DACK, DATA};
+use second::qaft::{ESCAPE, FLAG};
+use second::reader::State;
+use second::rng::Rng;
+use second::sheet::{self, COUNTS};
+
+/// The data octets of a capture are about this many: what a turn learns of a short one helps it in the next (kiss.rs).
+const OCTETS: usize = 1 << 20;
+
+pub const ROWS: &[fn() -> Row] = &[
+    || row("sheet count, frames of 2,560", 2560, Rng::octet),
+    || row("sheet count, frames of 2,560, 50 % escapes", 2560, escaped),
+    || row("sheet count, frames of 20", 20, Rng::octet),
+    || row("sheet count, frames of 20, 50 % escapes", 20, escaped),
+];
+
+/// Every second octet is one that is escaped.
+fn escaped(rng: &Rng) -> u8 {
+    if rng.once_in(2) {
+        return rng.pick(&[FLAG, ESCAPE]);
+    }
+    rng.octet()
+}
+
+/// A packet: DATA with a number that counts on or comes again, one in eight with the first octet of a DACK.
+fn packet(rng: &Rng, size: usize, octet: fn(&Rng) -> u8) -> Vec<u8> {
+    let mut data: Vec<u8> = (0..size).map(|_| octet(rng)).collect();
+    let kind = if rng.once_in(8) { DACK } else { DATA };
+    data[0] = kind | rng.pick(&[0, 1, 1, 2]);
+    data
+}
+
+/// The counts as one number that depends on each.
+fn weighed(counts: [u64; COUNTS]) -> usize {
+    let each = counts.into_iter().zip(1..);
+    each.map(|(count, weight)| count as usize * weight).sum()
+}
+
+fn row(what: &'static str, size: usize, octet: fn(&Rng) -> u8) -> Row {
+    let packets = frames::payloads(OCTETS, size, |rng, n| packet(rng, n, octet));
+    let line = frames::line(&[FLAG], &packets, |d, out| {
+        second::qaft::write(0, true, d, out).length
+    });
+    let (ours, by_second, plain) = (line.clone(), line.clone(), line.clone());
+    let reading = frames::reading(&line, usize::MAX, State::fresh(0), qaft::ours);
+    Row::new(what, "octet", line.len(), move || {
+        weighed(archive::count(0, &ours).counts)
+    })
+    .beside("second", move || {
+        weighed(sheet::count(0, &by_second).counts)
+    })
+    .beside("plain C", move || weighed(others::count(&plain)))
+    .part("our reader alone", reading)
+}

@@ -1,0 +1,255 @@
+//! Cases of the line sheet that the papers work out or that their sentences decide.
+use super::*;
+use crate::link::{PAYLOAD, RESET};
+use crate::qaft::{ESCAPE, FLAG, MAX_DATA};
+use crate::rng::Rng;
+
+const MOST: u32 = u32::MAX;
+const PAPER: [u8; 13] = [
+    0xAA, 0x7E, 0x40, 0x41, 0x7F, 0x7E, 0x10, 0x7D, 0x7E, 0x7E, 0x05, 0x7E, 0x33,
+];
+
+/// A line of one flag, then each frame's body and a flag.
+fn frames(all: &[&[u8]]) -> Vec<u8> {
+    let mut line = vec![FLAG];
+    for data in all {
+        line.extend(qaft::body(0, data));
+        line.push(FLAG);
+    }
+    line
+}
+
+/// DATA, DACK and repeats of a line of frames.
+fn packets(all: &[&[u8]]) -> (u64, u64, u64) {
+    let counts = counts(&frames(all));
+    assert_eq!(counts.reports, [all.len() as u64, 0, 0, 0, 0]);
+    (counts.data, counts.dack, counts.repeats)
+}
+
+/// The octet counts of a capture, and how many reports it has.
+fn octets(capture: &[u8]) -> ([u64; 4], u64) {
+    let counts = counts(capture);
+    let reports = counts.reports.iter().sum();
+    (
+        [counts.before, counts.flags, counts.segments, counts.after],
+        reports,
+    )
+}
+
+#[test]
+fn capture_of_the_paper() {
+    let mut table = [[0; COUNTS]; LINES];
+    assert_eq!(tally(0, &PAPER, 0, &mut table), 0);
+    assert_eq!(line(0, &table[0]), "0 1 5 6 1 1 1 0 1 0 1 0 0 0/1\n");
+    assert_eq!(table[1..], [[0; COUNTS]; LINES - 1]);
+    assert_eq!(tally(1, &PAPER, 0, &mut table), 0);
+    assert_eq!(line(0, &table[0]), "0 2 10 12 2 2 2 0 2 0 2 0 0 0/1\n");
+}
+
+#[test]
+fn octets_before_and_after() {
+    assert_eq!(octets(b""), ([0, 0, 0, 0], 0));
+    // no flag: all before, whatever they are
+    assert_eq!(octets(&[0x41, ESCAPE, 0x41]), ([3, 0, 0, 0], 0));
+    // one flag: none in segments
+    assert_eq!(octets(&[0x41, FLAG, 0x41, ESCAPE]), ([1, 1, 0, 2], 0));
+    assert_eq!(octets(&[FLAG]), ([0, 1, 0, 0], 0));
+    // only flags: empty segments say nothing
+    assert_eq!(octets(&[FLAG; 7]), ([0, 7, 0, 0], 0));
+    // raw octets of the line: both of an escape's count
+    assert_eq!(octets(&frames(&[&[FLAG]])), ([0, 2, 3, 0], 1));
+}
+
+#[test]
+fn reports_by_kind() {
+    let mut line = frames(&[&[0x41]]);
+    for segment in [&[0x10, ESCAPE][..], &[0; MAX_DATA + 2], &[0], &[0x41, 0xBE]] {
+        line.extend(segment);
+        line.push(FLAG);
+        line.extend(segment);
+        line.push(FLAG);
+    }
+    let counts = counts(&line);
+    assert_eq!(counts.reports, [1, 2, 2, 2, 2]);
+    assert_eq!(counts.segments, 2 + 2 * (2 + 2562 + 1 + 2));
+    assert_eq!(counts.flags, 10);
+}
+
+#[test]
+fn data_and_dack() {
+    assert_eq!(packets(&[&[0x40], &[0x5F]]), (1, 1, 0));
+    // a DACK of two octets is none, nor is any other first octet
+    assert_eq!(packets(&[&[0x50, 0x00]]), (0, 0, 0));
+    assert_eq!(packets(&[&[0x10], &[0x20], &[0x30], &[0x60]]), (0, 0, 0));
+    let longest = [0x43; PAYLOAD + 1];
+    assert_eq!(packets(&[&longest]), (1, 0, 0));
+    assert_eq!(packets(&[&[0x43; PAYLOAD + 2]]), (0, 0, 0));
+}
+
+#[test]
+fn repeats() {
+    assert_eq!(packets(&[&[0x43], &[0x43], &[0x43, 9]]), (3, 0, 2));
+    assert_eq!(packets(&[&[0x43], &[0x44], &[0x43]]), (3, 0, 0));
+    // a queue that is sent again
+    let queue: [&[u8]; 3] = [&[0x40], &[0x41], &[0x42]];
+    assert_eq!(packets(&[queue, queue].concat()), (6, 0, 0));
+    assert_eq!(packets(&[&[0x4F], &[0x40], &[0x40]]), (3, 0, 1));
+    // whatever was reported between
+    assert_eq!(packets(&[&[0x43], &[0x53], &[RESET], &[0x43]]), (2, 1, 1));
+    let mut line = frames(&[&[0x43]]);
+    line.extend([0x44, 0xBB, FLAG, 0x44, ESCAPE, FLAG, 0x44, FLAG]);
+    line.extend(frames(&[&[0x43]]));
+    let found = counts(&line);
+    assert_eq!(found.reports, [2, 1, 0, 1, 1]);
+    assert_eq!((found.data, found.repeats), (2, 1));
+}
+
+/// A 4x frame that is too long for a packet is neither DATA nor the DATA before.
+#[test]
+fn long_data_is_no_data() {
+    let (three, four) = ([0x43; PAYLOAD + 2], [0x44; PAYLOAD + 2]);
+    assert_eq!(packets(&[&three, &[0x43]]), (1, 0, 0));
+    assert_eq!(packets(&[&[0x43], &four, &[0x43]]), (2, 0, 1));
+    assert_eq!(packets(&[&[0x43], &three]), (1, 0, 0));
+}
+
+/// Nothing carries over from one capture to the next.
+#[test]
+fn no_repeat_across_captures() {
+    let capture = frames(&[&[0x43]]);
+    let mut table = [[0; COUNTS]; 2];
+    assert_eq!(tally(0, &capture, 1, &mut table), 0);
+    assert_eq!(tally(0, &capture, 1, &mut table), 0);
+    assert_eq!(line(1, &table[1]), "1 0 4 4 0 2 0 0 0 0 2 0 0 0/1\n");
+}
+
+#[test]
+fn refusals_in_order() {
+    let mut full = vec![[MOST; COUNTS]; 70];
+    let table = full.clone();
+    let mut number = |level, line, lines| tally(level, &PAPER, line, &mut full[..lines]);
+    assert_eq!(number(2, 64, 0), 6);
+    assert_eq!(number(255, 0, 70), 6);
+    assert_eq!(number(0, 0, 0), 50);
+    assert_eq!(number(0, 5, 5), 50);
+    assert_eq!(number(1, 64, 70), 50);
+    assert_eq!(number(1, usize::MAX, 70), 50);
+    assert_eq!(number(0, 4, 5), 51);
+    assert_eq!(number(0, 63, 70), 51);
+    assert_eq!(full, table);
+    // a capture of no octets adds nothing, and passes no limit
+    assert_eq!(tally(0, &[], 63, &mut full), 0);
+    assert_eq!(full, table);
+}
+
+/// Each count of a capture that has all of them, up to the highest number and one above.
+#[test]
+fn counts_at_the_limit() {
+    let mut capture = PAPER.to_vec();
+    capture.extend([FLAG, 0x41, 0xBE, FLAG]);
+    capture.extend([0; MAX_DATA + 2]);
+    capture.extend(frames(&[&[0x40], &[0x50]]));
+    capture.push(0x33);
+    let more = counts(&capture).in_order();
+    for (i, &n) in more.iter().enumerate() {
+        assert!(n > 0, "count {i}");
+        let mut table = [[7; COUNTS]];
+        table[0][i] = MOST - n as u32;
+        let mut later = table[0].map(u64::from);
+        for (count, n) in later.iter_mut().zip(more) {
+            *count += n;
+        }
+        assert_eq!(later[i], 4_294_967_295);
+        assert_eq!(tally(0, &capture, 0, &mut table), 0);
+        assert_eq!(table[0].map(u64::from), later);
+        table[0] = [7; COUNTS];
+        table[0][i] = MOST - n as u32 + 1;
+        let before = table;
+        assert_eq!(tally(0, &capture, 0, &mut table), 51);
+        assert_eq!(table, before);
+    }
+}
+
+#[test]
+fn shares() {
+    let printed = |reports: [u32; 5]| {
+        let mut record = [0; COUNTS];
+        record[REPORTS].copy_from_slice(&reports);
+        let text = line(0, &record);
+        text.trim_end().rsplit(' ').next().map(str::to_owned)
+    };
+    let share = |reports, text: &str| assert_eq!(printed(reports), Some(text.to_owned()));
+    share([0; 5], "0/1");
+    share([3, 0, 0, 0, 6], "2/3");
+    share([0, 1, 1, 1, 6], "2/3");
+    share([0, 0, 0, 0, 6], "1/1");
+    share([5, 4, 3, 2, 0], "0/1");
+    share([MOST; 5], "1/5");
+    share([6, 0, 0, 0, 1], "1/7");
+    // all reports need more than 32 bits
+    share([MOST, 1, 0, 0, 2], "1/2147483649");
+    share([MOST, MOST, MOST, MOST - 1, MOST], "4294967295/21474836474");
+}
+
+/// The longest line there is, in the room that is asked for.
+#[test]
+fn longest_line() {
+    let mut record = [MOST; COUNTS];
+    record[4] = MOST - 1;
+    let text = line(usize::MAX, &record);
+    assert_eq!((text.len(), LONGEST_LINE, MAX_LINE), (176, 176, 315));
+    let mut out = [0xAA; MAX_LINE + 1];
+    assert_eq!(put_line(usize::MAX, &record, &mut out[..MAX_LINE - 1]), 0);
+    assert_eq!(out, [0xAA; MAX_LINE + 1]);
+    let room = &mut out[..MAX_LINE];
+    assert_eq!(put_line(usize::MAX, &record, room), LONGEST_LINE);
+    let (front, behind) = out.split_at(LONGEST_LINE);
+    assert_eq!(front, text.as_bytes());
+    assert_eq!(behind, [0xAA; MAX_LINE + 1 - LONGEST_LINE]);
+    // the room that is asked for does not depend on the line
+    assert_eq!(put_line(0, &[0; COUNTS], &mut out[..MAX_LINE - 1]), 0);
+    assert_eq!(put_line(0, &[0; COUNTS], &mut out), 30);
+}
+
+#[test]
+fn whole_sheet() {
+    assert_eq!(sheet(&[]), "");
+    let mut table = [[0; COUNTS]; 3];
+    assert_eq!(tally(0, &PAPER, 1, &mut table), 0);
+    assert_eq!(
+        sheet(&table),
+        "0 0 0 0 0 0 0 0 0 0 0 0 0 0/1\n1 1 5 6 1 1 1 0 1 0 1 0 0 0/1\n2 0 0 0 0 0 0 0 0 0 0 0 0 0/1\n"
+    );
+    // every record of a table that is longer than the lines go
+    assert_eq!(sheet(&[[0; COUNTS]; 66]).lines().count(), 66);
+}
+
+#[test]
+fn counts_of_a_level() {
+    assert_eq!(
+        count(2, &PAPER),
+        Counted {
+            number: 6,
+            counts: [0; COUNTS]
+        }
+    );
+    assert_eq!(
+        count(1, &PAPER),
+        Counted {
+            number: 0,
+            counts: [1, 5, 6, 1, 1, 1, 0, 1, 0, 1, 0, 0]
+        }
+    );
+}
+
+/// What a capture adds to the four octet counts adds up to its length.
+#[test]
+fn octet_counts_add_up() {
+    let rng = Rng::new(3);
+    for _ in 0..3_000 {
+        let few = [FLAG, FLAG, ESCAPE, 0x40, 0x00, rng.octet()];
+        let capture: Vec<u8> = (0..rng.below(40)).map(|_| rng.pick(&few)).collect();
+        let (counts, _) = octets(&capture);
+        assert_eq!(counts.iter().sum::<u64>(), capture.len() as u64);
+    }
+}
