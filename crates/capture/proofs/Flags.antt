@@ -1,14 +1,14 @@
 -- Laws of the parts of a whole capture, over lists alone. Assumes nothing.
 use Prim.Native.Nat.{ℕ, zero, suc, _+_, _-_, _≤_, _<_}
 use mathlib.Core.Bool.{Bool, true, false, cond}
-use mathlib.Core.List.{List, [], _∷_}
+use mathlib.Core.List.{List, [], _∷_, _++_}
 use mathlib.Core.Path.{_≡_, refl, sym, ap, _∙_}
-use native.Mathlib.Nat.{le-of-suc-le-suc}
+use native.Mathlib.Nat.{zero-add, le-of-suc-le-suc}
 use native.Mathlib.Numerals.{add-one}
 use native.Mathlib.Omega.{arith}
 use lib.Dec.{eqb}
-use lib.ListN.{length, getD, drop, drop-of-length-le}
-use lib.Seq.{drop-cons}
+use lib.ListN.{length, getD, take, drop, drop-of-length-le, take-append-drop}
+use lib.Seq.{drop-cons, drop-drop}
 use Rattle.capture.specs.Whole.{before, flags, closed, between, after}
 use Rattle.framing.specs.Flags.{hasFlag}
 
@@ -108,6 +108,29 @@ module _ (flag : ℕ) where
       go true k h e ih = omega arith
       go false k true e ih = let n = ih e in omega (arith, n)
       go false k false e ih = let z : _≡_ {A = ℕ} 0 1 = cc in absurd (omega arith)
+
+  -- flags of octets, and of others
+  flags-++ : (xs ys : List ℕ) → flags flag (xs ++ ys) ≡ flags flag xs + flags flag ys
+  unfolding flags
+  flags-++ [] ys = sym (zero-add (flags flag ys))
+  flags-++ (x ∷ xs) ys = go (eqb x flag) (flags-++ xs ys)
+    where
+      go : (b : Bool) → flags flag (xs ++ ys) ≡ flags flag xs + flags flag ys
+          → cond b (suc (flags flag (xs ++ ys))) (flags flag (xs ++ ys)) ≡ cond b (suc (flags flag xs)) (flags flag xs) + flags flag ys
+      go true ih = omega (arith, ih)
+      go false ih = ih
+
+  -- ---- a loop that goes part by part: the part from octet i to octet j has r flags
+  module _ (l : List ℕ) (i j : ℕ) (h : i ≤ j) where
+    pub flags-part : (n r : ℕ) → r ≡ flags flag (take (j - i) (drop i l)) → n + flags flag (drop i l) ≡ flags flag l
+        → (n + r + flags flag (drop j l) ≡ flags flag l) × (n + r ≤ length l)
+    flags-part n r e inv =
+        let k = j - i in
+        let z : i + k ≡ j = omega arith in
+        let cut : drop i l ≡ take k (drop i l) ++ drop j l = sym (take-append-drop k (drop i l)) ∙ ap (λ (d : List ℕ). take k (drop i l) ++ d) (drop-drop k i l ∙ ap (λ (m : ℕ). drop m l) z) in
+        let two = ap (flags flag) cut ∙ flags-++ (take k (drop i l)) (drop j l) in
+        let w : n + r + flags flag (drop j l) ≡ flags flag l = omega (arith, e, inv, two) in
+        (w, omega (arith, w, parts-add-up l))
 
   -- ---- a loop that stands at octet i
   module _ (l : List ℕ) (i : ℕ) where

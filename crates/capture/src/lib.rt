@@ -1,9 +1,14 @@
 // A captured line: its raw octets before the first flag, between flags and after the last, and its flags, counted chunk after chunk
 // (specs/Octets; of a whole capture: specs/Whole). What stands between the first flag of a chunk and its last is counted at once.
+ghost use Prim.Native.Nat.{_+_, _≤_, _<_};
 ghost use mathlib.Core.Bool.{cond};
 ghost use mathlib.Core.Path.{_≡_};
+ghost use lib.ListN.{length};
 ghost use Rattle.capture.specs.Octets.{freshOctets, plainAdded, flagsAdded, countAll};
 ghost use Rattle.capture.specs.Whole.{before, flags, after};
+
+// Octets of a chunk whose flags are counted in one octet.
+const PART: usize = 224;
 
 // Octets before the first flag, flags, octets between two flags, octets after the last; and whether a flag has come.
 pub struct Octets {
@@ -79,21 +84,47 @@ impl Octets {
     }
 }
 
-// The flags of a chunk.
+// The flags of a chunk, part after part.
 fn flags_in(flag: u8, chunk: &[u8]) -> usize
     ensures { λ r. ⌜ r ≡ flags flag (now (chunk .entry)) ⌝ }
 {
     let mut n = 0;
     let mut i = 0;
     while i < chunk.len() {
-        n += one_if(chunk[i] == flag);
+        let end = part_end(i, chunk.len());
+        n += flags_in_part(flag, &chunk[i..end]) as usize;
+        i = end;
+    }
+    n
+}
+
+// Where the part that begins at `from` ends.
+fn part_end(from: usize, length: usize) -> usize
+    requires { ⌜ from < length ⌝ }
+    ensures { λ r. ⌜ (from < r) × (r ≤ length) × (r ≤ from + 255) ⌝ }
+{
+    if length - from < PART {
+        return length;
+    }
+    from + PART
+}
+
+// Counted in an octet, which a part can't pass: the loop is then made vectors of sixteen octets.
+fn flags_in_part(flag: u8, part: &[u8]) -> u8
+    requires { ⌜ length (now part) ≤ 255 ⌝ }
+    ensures { λ r. ⌜ r ≡ flags flag (now (part .entry)) ⌝ }
+{
+    let mut n = 0;
+    let mut i = 0;
+    while i < part.len() {
+        n += one_if(part[i] == flag);
         i += 1;
     }
     n
 }
 
-// No branch, so that the loop is made vectors of.
-fn one_if(yes: bool) -> usize
+// No branch.
+fn one_if(yes: bool) -> u8
     ensures { λ r. ⌜ r ≡ cond yes 1 0 ⌝ }
 {
     if yes { 1 } else { 0 }
