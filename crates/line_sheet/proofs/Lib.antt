@@ -1,0 +1,4 @@
+pub mod Cases
+pub mod Others
+pub mod Printing
+pub mod Typing
