@@ -68,11 +68,6 @@ pub fn all(count: u64, seed: u64) -> bool {
     for (i, (name, layer, numbers)) in LAYERS.iter().enumerate() {
         // a generator for each layer, so that one layer's inputs don't depend on another's
         let rng = Rng::new(Rng::new(seed).next().wrapping_add(i as u64));
-        // only until the program is there
-        if *name == "line sheet, program" && !process::place("target/bin/line_sheet").exists() {
-            println!("{name}: SKIPPED, since target/bin/line_sheet is not there");
-            continue;
-        }
         let mut tally = Tally::new(name);
         layer(&rng, count, &mut tally);
         good &= tally.finish(count, numbers);

@@ -90,15 +90,46 @@ fn run_with(words: &[String], portions: Vec<Vec<u8>>) -> Run {
     })
 }
 
+/// Whether a message says that a file is being read, and not that it was not counted.
+fn is_progress(message: &str) -> bool {
+    message.ends_with(": reading")
+}
+
+/// Where there are several captures, each that has a line number is named before it is read; one alone is not.
+fn progress(run: &Run, entries: &[Entry]) -> bool {
+    let read: Vec<&str> = run
+        .messages
+        .lines()
+        .filter(|line| is_progress(line))
+        .collect();
+    let numbered = entries.iter().filter(|entry| number(&entry.line).is_some());
+    let files: Vec<&str> = numbered.map(|entry| entry.file.as_str()).collect();
+    if entries.len() < 2 {
+        return read.is_empty();
+    }
+    read.len() == files.len()
+        && read
+            .iter()
+            .zip(files)
+            .all(|(line, file)| line.contains(file))
+}
+
 /// What is seen of a run.
-fn seen(run: Run, entries: &[Entry]) -> Seen {
+fn seen(run: &Run, entries: &[Entry]) -> Seen {
+    let refused: Vec<&str> = run
+        .messages
+        .lines()
+        .filter(|line| !is_progress(line))
+        .collect();
     let files = entries.iter().map(|entry| entry.file.clone());
-    let mut named: Vec<String> = files.filter(|file| run.messages.contains(file)).collect();
+    let mut named: Vec<String> = files
+        .filter(|file| refused.iter().any(|line| line.contains(file)))
+        .collect();
     named.sort();
     named.dedup();
     Seen {
         output: String::from_utf8_lossy(&run.output).into_owned(),
-        quiet: run.good && run.messages.is_empty(),
+        quiet: run.good && refused.is_empty(),
         named,
     }
 }
@@ -117,7 +148,11 @@ fn one(rng: &Rng, pieces: u64, level: u8, entries: &[Entry], tally: &mut Tally) 
     let piped = entries.iter().find(|entry| entry.file == PIPE);
     let octets = piped.and_then(|entry| entry.capture.as_deref());
     let archive = run_with(&words, portions(rng, octets.unwrap_or_default()));
-    tally.inputs(pieces, &ours, &seen(archive, entries), || {
+    tally.claim(
+        "several captures are named as they are read, one is not",
+        progress(&archive, entries),
+    );
+    tally.inputs(pieces, &ours, &seen(&archive, entries), || {
         let captures = entries.iter().flat_map(|entry| &entry.capture);
         let captures: Vec<String> = captures.map(|octets| hex(octets)).collect();
         format!("{words:?}, {captures:?}")
