@@ -1,4 +1,3 @@
-pub mod Cases
+pub mod LevelLaws
 pub mod Others
 pub mod Printing
-pub mod Typing

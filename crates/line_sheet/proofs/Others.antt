@@ -3,7 +3,7 @@ use Prim.Native.Nat.{ℕ}
 use mathlib.Core.List.{List}
 use mathlib.Core.Path.{_≡_, sym, ap, _∙_}
 use Rattle.line_sheet.specs.Sheet.{OthersKept}
-use Rattle.line_sheet.specs.declared.number.Typed.{Typed}
+use Rattle.numerals.specs.declared.Typed.{Typed}
 use Rattle.sheet.specs.Tallies.{freshTally}
 use Rattle.sheet.specs.declared.Counts.{Counts}
 use Rattle.sheet.specs.declared.Tally.{Tally}

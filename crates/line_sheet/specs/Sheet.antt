@@ -2,7 +2,7 @@
 use Prim.Native.Nat.{ℕ, suc, _*_}
 use mathlib.Core.List.{List, [], _∷_, _++_}
 use mathlib.Core.Path.{_≡_}
-use Rattle.line_sheet.specs.declared.number.Typed.{Typed}
+use Rattle.numerals.specs.declared.Typed.{Typed}
 use Rattle.sheet.specs.Limits.{lines}
 use Rattle.sheet.specs.declared.Tally.{Tally}
 use Rattle.sheet_line.specs.Line.{lineText, lineRoom}

@@ -2,13 +2,13 @@
 // sheet_table and sheet_line; here arguments are looked at and octets are moved. Memory is constant: one chunk, one segment, the table, and
 // the two arguments of a pair.
 ghost use mathlib.Core.Path.{_≡_};
-ghost use Rattle.line_sheet.specs.Number.{typedOf, levelOf};
+ghost use Rattle.line_sheet.specs.Levels.{levelOf};
 ghost use Rattle.line_sheet.specs.Sheet.{OthersKept};
-use number::Typed;
+ghost use Rattle.numerals.specs.Number.{typedOf};
+use numerals::Typed;
 use reading::Capture;
 use sheet::Tally;
 
-mod number;
 mod print;
 mod reading;
 mod say;
@@ -46,7 +46,7 @@ fn typed_level(word: &mut [u8]) -> Level {
     if os::errno() != 0 {
         return Level::None;
     }
-    level_of(number::parse(&word[..n]))
+    level_of(numerals::parse(&word[..n]))
 }
 
 fn level_of(typed: Typed) -> Level
@@ -120,7 +120,7 @@ fn with_pair(
 fn with_file(level: u8, shown: bool, word: &[u8], name: &[u8], table: Table) -> Table
     ensures { λ r. ⌜ OthersKept (typedOf (now (word .entry))) (table .records) (r .records) ⌝ }
 {
-    let typed = number::parse(word);
+    let typed = numerals::parse(word);
     let Typed::Number(line) = typed else {
         say::line(name, b"no line number: ", word);
         return table;

@@ -2,10 +2,10 @@
 use mathlib.Core.Path.{sym}
 use native.Mathlib.Omega.{arith}
 use borrow.Author.Needs.{needs}
-use Rattle.line_sheet.proofs.Typing.{level-is, level-over}
+use Rattle.line_sheet.proofs.LevelLaws.{level-is, level-over}
 use Rattle.line_sheet.proofs.level_of.Statement.{statement}
 use Rattle.line_sheet.proofs.level_of.Tie as tie
-use Rattle.line_sheet.specs.Number.{levelOf}
+use Rattle.line_sheet.specs.Levels.{levelOf}
 
 enum-known-typed : tie.Need-enum-known-typed
 enum-known-typed c = search needs

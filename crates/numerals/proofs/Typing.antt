@@ -8,10 +8,8 @@ use native.Mathlib.Omega.{arith}
 use borrow.Author.Tests.{lt-ltb, le-ltb, le-leb, lt-leb}
 use lib.ListN.{length, getD, drop, drop-of-length-le}
 use lib.Seq.{drop-cons}
-use Rattle.line_sheet.specs.Number.{allDigits, valueFrom, typedFrom, typedOf, levelOf}
-use Rattle.line_sheet.specs.declared.Level.{Level}
-use Rattle.line_sheet.specs.declared.number.Typed.{Typed}
-use Rattle.qaft.specs.Limits.{maxLevel}
+use Rattle.numerals.specs.Number.{allDigits, valueFrom, typedFrom, typedOf}
+use Rattle.numerals.specs.declared.Typed.{Typed}
 
 -- digits make a number no smaller
 valueFrom-grows : (xs : List ℕ) (n : ℕ) → n ≤ valueFrom n xs
@@ -69,12 +67,3 @@ pub typed-some : (xs : List ℕ) → 0 < length xs → typedFrom 0 xs ≡ typedO
 unfolding typedOf
 typed-some [] h = absurd (omega arith)
 typed-some (x ∷ xs) h = refl
-
--- a level is at most the largest
-pub level-is : (t : Typed) (n : ℕ) → t ≡ Typed.Number n → n ≤ maxLevel → levelOf t ≡ Level.Is n
-unfolding levelOf
-level-is t n e h = rw (e, le-leb n maxLevel h)
-
-pub level-over : (t : Typed) (n : ℕ) → t ≡ Typed.Number n → maxLevel < n → levelOf t ≡ Level.None
-unfolding levelOf
-level-over t n e h = rw (e, lt-leb n maxLevel h)

@@ -1,15 +1,12 @@
--- Numbers as they are typed among a program's arguments. Cited by `parse` and `level_of`. Assumes nothing.
+-- Numbers as they are typed among a program's arguments. Cited by `parse`. Assumes nothing.
 --
 --   valueFrom n xs   the number n with the digits xs behind it
 --   typedOf xs       the number that the octets xs are, or none
---   levelOf t        the level that a typed number is, or none
 use Prim.Native.Nat.{ℕ, _+_, _*_, _-_, _^_}
 use mathlib.Core.Bool.{Bool, true, _&&_, cond}
 use mathlib.Core.List.{List, [], _∷_}
 use lib.Dec.{leb, ltb}
-use Rattle.line_sheet.specs.declared.Level.{Level}
-use Rattle.line_sheet.specs.declared.number.Typed.{Typed}
-use Rattle.qaft.specs.Limits.{maxLevel}
+use Rattle.numerals.specs.declared.Typed.{Typed}
 
 abbrev pub isDigit : ℕ → Bool
 isDigit x = leb 48 x && leb x 57
@@ -30,8 +27,3 @@ typedFrom n xs = cond (allDigits xs && ltb (valueFrom n xs) (2 ^ 64)) (Typed.Num
 unfoldable pub typedOf : List ℕ → Typed
 typedOf [] = Typed.None
 typedOf (x ∷ xs) = typedFrom 0 (x ∷ xs)
-
--- a level is 0 or 1
-unfoldable pub levelOf : Typed → Level
-levelOf (Typed.Number n) = cond (leb n maxLevel) (Level.Is n) Level.None
-levelOf Typed.None = Level.None

@@ -1,6 +1,6 @@
-// A number as it is typed (specs/Number).
+// Numbers as they are typed among a program's arguments (specs/Number).
 ghost use mathlib.Core.Path.{_≡_};
-ghost use Rattle.line_sheet.specs.Number.{typedOf};
+ghost use Rattle.numerals.specs.Number.{typedOf};
 
 pub enum Typed {
     Number(usize),
@@ -8,7 +8,7 @@ pub enum Typed {
 }
 
 // Decimal digits alone, and no more than fit into a number of 64 bits; anything else is none.
-pub(crate) fn parse(word: &[u8]) -> Typed
+pub fn parse(word: &[u8]) -> Typed
     ensures { λ r. ⌜ r ≡ typedOf (now (word .entry)) ⌝ }
 {
     if word.len() == 0 {

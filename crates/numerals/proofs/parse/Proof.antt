@@ -1,14 +1,14 @@
--- `line_sheet::number::parse` meets its contract. The loop's invariant: the digits that are left, behind the number so far, give the whole.
+-- `numerals::parse` meets its contract. The loop's invariant: the digits that are left, behind the number so far, give the whole.
 -- Assumes nothing.
 use Prim.Native.Nat.{_-_, _^_, _<_}
 use mathlib.Core.Path.{_≡_, sym, _∙_}
 use native.Mathlib.Omega.{arith}
 use borrow.Author.Needs.{needs}
 use lib.ListN.{length, drop}
-use Rattle.line_sheet.proofs.Typing.{typed-empty, typed-some, typed-low, typed-high, typed-over, typed-next, typed-end}
-use Rattle.line_sheet.specs.Number.{typedFrom, typedOf}
-use Rattle.line_sheet.proofs.number.parse.Statement.{statement}
-use Rattle.line_sheet.proofs.number.parse.Tie as tie
+use Rattle.numerals.proofs.Typing.{typed-empty, typed-some, typed-low, typed-high, typed-over, typed-next, typed-end}
+use Rattle.numerals.specs.Number.{typedFrom, typedOf}
+use Rattle.numerals.proofs.parse.Statement.{statement}
+use Rattle.numerals.proofs.parse.Tie as tie
 
 abbrev Inv-loop : tie.InvT-loop
 Inv-loop word n₀ i₀ n i = (n < 2 ^ 64) × (typedFrom n (drop i word) ≡ typedOf word)

@@ -1,9 +1,8 @@
--- Arguments, worked. Assumes nothing.
+-- Worked numbers. Assumes nothing.
 use mathlib.Core.List.{[]}
 use mathlib.Core.Path.{_≡_, refl}
-use Rattle.line_sheet.specs.Number.{allDigits, valueFrom, typedFrom, typedOf, levelOf}
-use Rattle.line_sheet.specs.declared.Level.{Level}
-use Rattle.line_sheet.specs.declared.number.Typed.{Typed}
+use Rattle.numerals.specs.Number.{allDigits, valueFrom, typedFrom, typedOf}
+use Rattle.numerals.specs.declared.Typed.{Typed}
 use Rattle.text.specs.Text.{ascii}
 
 last-line : typedOf (ascii "63") ≡ Typed.Number 63
@@ -35,15 +34,3 @@ signed = refl
 with-a-letter : typedOf (ascii "1x") ≡ Typed.None
 unfolding typedOf typedFrom valueFrom allDigits
 with-a-letter = refl
-
-level-1 : levelOf (typedOf (ascii "1")) ≡ Level.Is 1
-unfolding typedOf typedFrom valueFrom allDigits levelOf
-level-1 = refl
-
-level-2 : levelOf (typedOf (ascii "2")) ≡ Level.None
-unfolding typedOf typedFrom valueFrom allDigits levelOf
-level-2 = refl
-
-level-256 : levelOf (typedOf (ascii "256")) ≡ Level.None
-unfolding typedOf typedFrom valueFrom allDigits levelOf
-level-256 = refl
