@@ -1,19 +1,28 @@
--- The cases of `count`. Assumes nothing.
+-- The cases of `count`, and the octets that a report shows. Assumes nothing.
 use Prim.Native.Nat.{ℕ, _≤_, _<_}
-use mathlib.Core.List.{List}
+use mathlib.Core.Bool.{cond}
+use mathlib.Core.List.{List, []}
 use mathlib.Core.Path.{_≡_, sym, ap, _∙_}
+use native.Mathlib.Nat.{zero-add}
 use borrow.Author.Tests.{lt-ltb, le-ltb}
-use lib.ListN.{length}
+use lib.Dec.{leb}
+use lib.ListN.{length, take}
 use Rattle.capture.specs.Octets.{countAll}
 use Rattle.capture.specs.declared.Octets.{Octets}
+use Rattle.framing.specs.Reports.{shown}
 use Rattle.qaft.specs.Answers.{done, bufferTooSmall, badLevel}
 use Rattle.qaft.specs.Escape.{flag}
 use Rattle.qaft.specs.Limits.{maxLevel, maxSegment}
+use Rattle.qaft_report.specs.Answer.{shown as frontShown}
 use Rattle.sheet.specs.Limits.{tooLarge}
 use Rattle.sheet_counter.specs.Count.{gathered, progressOf, later, Call, callOf, refusal, refusals, count}
 use Rattle.sheet_counter.specs.declared.Counted.{Counted}
 use Rattle.sheet_counter.specs.declared.Counter.{Counter}
 use Rattle.sheet_counter.specs.declared.Progress.{Progress}
+
+-- a frame's octets stand at the front of the buffer
+pub shown-front : (m : List ℕ) (n : ℕ) → frontShown m n ≡ shown m 0 n
+shown-front m n = ap (λ (k : ℕ). cond (leb k (length m)) (take n m) []) (sym (zero-add n))
 
 module _ (c : Counter) (xs m : List ℕ) where
   -- as the code goes: a is the answer that a refusal gives

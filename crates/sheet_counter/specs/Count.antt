@@ -23,11 +23,11 @@ use Rattle.qaft_report.specs.declared.Report.{Report}
 use Rattle.qaft_rules.specs.Rules.{rules}
 use Rattle.sheet.specs.Limits.{tooLarge}
 use Rattle.sheet.specs.declared.Counts.{Counts}
-use Rattle.sheet_counter.specs.Found.{freshFound, foundWith}
 use Rattle.sheet_counter.specs.declared.Counted.{Counted}
 use Rattle.sheet_counter.specs.declared.Counter.{Counter}
 use Rattle.sheet_counter.specs.declared.Progress.{Progress}
-use Rattle.sheet_counter.specs.declared.found.Found.{Found}
+use Rattle.sheet_found.specs.Found.{freshFound, foundWith}
+use Rattle.sheet_found.specs.declared.Found.{Found}
 
 -- the state of reading before any flag, and nothing counted yet
 abbrev pub fresh : declared.State

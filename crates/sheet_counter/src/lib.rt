@@ -9,10 +9,7 @@ use capture::Octets;
 use deframer::State;
 use qaft_report::Report;
 use sheet::Counts;
-
-mod found;
-
-pub use found::Found;
+use sheet_found::Found;
 
 // What goes from chunk to chunk: the level, the state of reading, octets, reports and packets.
 pub struct Counter {

@@ -24,7 +24,7 @@ use Rattle.sheet.specs.Limits.{tooLarge}
 use Rattle.sheet_counter.proofs.Calls.{count-gathered}
 use Rattle.sheet_counter.specs.Count.{withReport, Call, callOf}
 use Rattle.sheet_counter.specs.declared.Counter.{Counter}
-use Rattle.sheet_counter.specs.declared.found.Found.{Found}
+use Rattle.sheet_found.specs.declared.Found.{Found}
 use Rattle.sheet_laws.specs.Caller.{Counting, countChunks}
 
 module _ (level : ℕ) (h : level ≤ maxLevel) where

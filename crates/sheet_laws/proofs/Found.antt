@@ -15,8 +15,8 @@ use Rattle.qaft_report.specs.declared.Report.{Report}
 use Rattle.qaft_rules.specs.Rules.{rules}
 use Rattle.sheet.specs.Limits.{tooLarge}
 use Rattle.sheet_counter.specs.Count.{withReport}
-use Rattle.sheet_counter.specs.Found.{more, foundWith}
-use Rattle.sheet_counter.specs.declared.found.Found.{Found}
+use Rattle.sheet_found.specs.Found.{more, foundWith}
+use Rattle.sheet_found.specs.declared.Found.{Found}
 use Rattle.sheet_rules.proofs.Repeats.{repeatsFrom}
 use Rattle.sheet_rules.specs.Counts.{countOf, isKind, hasData, hasDack, isNumbered, lastFrom}
 

@@ -23,8 +23,8 @@ use Rattle.qaft_rules.specs.Rules.{rules}
 use Rattle.sheet.specs.Limits.{tooLarge}
 use Rattle.sheet.specs.declared.Tally.{Tally}
 use Rattle.sheet_counter.specs.Count.{withReport, countsIn}
-use Rattle.sheet_counter.specs.Found.{freshFound}
-use Rattle.sheet_counter.specs.declared.found.Found.{Found}
+use Rattle.sheet_found.specs.Found.{freshFound}
+use Rattle.sheet_found.specs.declared.Found.{Found}
 use Rattle.sheet_laws.proofs.Chunks.{counterAt, chunks-are}
 use Rattle.sheet_laws.proofs.Found.{foundWhole, found-events}
 use Rattle.sheet_laws.specs.Caller.{Counting, countedIn}

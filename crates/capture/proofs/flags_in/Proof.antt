@@ -4,7 +4,7 @@ use mathlib.Core.Path.{_≡_}
 use native.Mathlib.Nat.{zero-add}
 use native.Mathlib.Omega.{arith}
 use borrow.Author.Needs.{needs}
-use lib.ListN.{length, drop, length-take}
+use lib.ListN.{length, drop}
 use Rattle.capture.proofs.Flags.{flags-end, flags-part}
 use Rattle.capture.proofs.flags_in.Statement.{statement}
 use Rattle.capture.proofs.flags_in.Tie as tie

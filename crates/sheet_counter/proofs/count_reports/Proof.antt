@@ -17,7 +17,7 @@ use Rattle.qaft_rules.specs.Rules.{rules}
 use Rattle.sheet_counter.proofs.count_reports.Statement.{statement}
 use Rattle.sheet_counter.proofs.count_reports.Tie as tie
 use Rattle.sheet_counter.specs.Count.{always, withReport, gatheredFrom, gathered, progressOf}
-use Rattle.sheet_counter.specs.declared.found.Found.{Found}
+use Rattle.sheet_found.specs.declared.Found.{Found}
 
 abbrev Inv-loop : tie.InvT-loop
 Inv-loop chunk buffer₀ r state₀ found₀ i₀ buffer state found i =

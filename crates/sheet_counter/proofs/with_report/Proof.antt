@@ -2,10 +2,10 @@
 use mathlib.Core.List.{List}
 use mathlib.Core.Path.{ap, _∙_}
 use Prim.Native.Nat.{ℕ}
-use Rattle.sheet_counter.proofs.Finding.{shown-front}
+use Rattle.sheet_counter.proofs.Calls.{shown-front}
 use Rattle.sheet_counter.proofs.with_report.Statement.{statement}
 use Rattle.sheet_counter.proofs.with_report.Tie as tie
-use Rattle.sheet_counter.specs.Found.{foundWith}
+use Rattle.sheet_found.specs.Found.{foundWith}
 
 frame-data-requires : tie.Need-frame-data-requires
 frame-data-requires c κs = tt

@@ -4,7 +4,7 @@ use Rattle.capture.specs.declared.Octets.{Octets}
 use Rattle.sheet_counter.proofs.Counter.new.Statement.{statement}
 use Rattle.sheet_counter.proofs.Counter.new.Tie as tie
 use Rattle.sheet_counter.specs.Count.{fresh}
-use Rattle.sheet_counter.specs.declared.found.Found.{Found}
+use Rattle.sheet_found.specs.declared.Found.{Found}
 
 new-requires : tie.Need-new-requires
 new-requires c κs = tt

@@ -1,8 +1,8 @@
--- `found::is_numbered` meets its contract: case by case. Assumes nothing.
+-- `sheet_found::is_numbered` meets its contract: case by case. Assumes nothing.
 use mathlib.Core.Path.{sym, ap}
 use borrow.Author.Needs.{needs}
-use Rattle.sheet_counter.proofs.found.is_numbered.Statement.{statement}
-use Rattle.sheet_counter.proofs.found.is_numbered.Tie as tie
+use Rattle.sheet_found.proofs.is_numbered.Statement.{statement}
+use Rattle.sheet_found.proofs.is_numbered.Tie as tie
 use Rattle.sheet_rules.specs.Counts.{isNumbered}
 
 enum-told : tie.Need-enum-told

@@ -1,7 +1,7 @@
 -- `Found::with` meets its contract: each count, and the number of the last DATA. Assumes nothing.
-use Rattle.sheet_counter.proofs.Finding.{with-made}
-use Rattle.sheet_counter.proofs.found.Found.with.Statement.{statement}
-use Rattle.sheet_counter.proofs.found.Found.with.Tie as tie
+use Rattle.sheet_found.proofs.Finding.{with-made}
+use Rattle.sheet_found.proofs.Found.with.Statement.{statement}
+use Rattle.sheet_found.proofs.Found.with.Tie as tie
 
 number-requires : tie.Need-number-requires
 number-requires c κs = tt

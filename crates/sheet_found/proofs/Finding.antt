@@ -1,24 +1,17 @@
 -- Reports and packets counted report by report, as the code goes. Assumes nothing.
 use Prim.Native.Nat.{ℕ}
-use mathlib.Core.Bool.{Bool, cond}
-use mathlib.Core.List.{List, []}
-use mathlib.Core.Path.{_≡_, sym, ap, _∙_}
-use native.Mathlib.Nat.{zero-add}
-use lib.Dec.{leb, eqb}
-use lib.ListN.{length, take}
+use mathlib.Core.Bool.{Bool}
+use mathlib.Core.Path.{_≡_, ap, _∙_}
+use lib.Dec.{eqb}
 use Rattle.dlc_packet.specs.Packet.{kindOf}
 use Rattle.dlc_packet.specs.declared.Kind.{Kind}
-use Rattle.framing.specs.Reports.{Reported, shown}
+use Rattle.framing.specs.Reports.{Reported}
 use Rattle.qaft.specs.Answers.{frame, aborted, long, short, badCheck}
-use Rattle.qaft_report.specs.Answer.{reportNumber, shown as frontShown}
+use Rattle.qaft_report.specs.Answer.{reportNumber}
 use Rattle.qaft_report.specs.declared.Report.{Report}
-use Rattle.sheet_counter.specs.Found.{more, foundWith}
-use Rattle.sheet_counter.specs.declared.found.Found.{Found}
+use Rattle.sheet_found.specs.Found.{more, foundWith}
+use Rattle.sheet_found.specs.declared.Found.{Found}
 use Rattle.sheet_rules.specs.Counts.{isData, isDack, isNumbered, numberAfter}
-
--- a frame's octets stand at the front of the buffer
-pub shown-front : (m : List ℕ) (n : ℕ) → frontShown m n ≡ shown m 0 n
-shown-front m n = ap (λ (k : ℕ). cond (leb k (length m)) (take n m) []) (sym (zero-add n))
 
 -- n is the report's number, k the kind of the packet that its octets are
 module _ (f : Found) (r : Reported Report) (n : ℕ) (k : Kind) (ne : n ≡ reportNumber (r .report)) (ke : k ≡ kindOf (r .octets)) where

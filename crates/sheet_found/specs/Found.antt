@@ -1,5 +1,5 @@
 -- Reports and packets of a capture, counted report by report: each count stops where it is too large for every line. Cited by `Found::with`; that
--- these are the counts of the whole list of reports is a law (proofs/Found). Assumes nothing.
+-- these are the counts of the whole list of reports is a law (sheet_laws/proofs/Found). Assumes nothing.
 use Prim.Native.Nat.{ℕ}
 use mathlib.Core.Bool.{Bool, cond}
 use Rattle.counter.specs.Counted.{counted}
@@ -8,7 +8,7 @@ use Rattle.framing.specs.Reports.{Reported}
 use Rattle.qaft.specs.Answers.{frame, aborted, long, short, badCheck}
 use Rattle.qaft_report.specs.declared.Report.{Report}
 use Rattle.sheet.specs.Limits.{tooLarge}
-use Rattle.sheet_counter.specs.declared.found.Found.{Found}
+use Rattle.sheet_found.specs.declared.Found.{Found}
 use Rattle.sheet_rules.specs.Counts.{isKind, isData, isDack, isNumbered, numberAfter, none}
 
 -- nothing found yet

@@ -1,7 +1,7 @@
--- `found::more` meets its contract. Assumes nothing.
+-- `sheet_found::more` meets its contract. Assumes nothing.
 use borrow.Author.Needs.{needs}
-use Rattle.sheet_counter.proofs.found.more.Statement.{statement}
-use Rattle.sheet_counter.proofs.found.more.Tie as tie
+use Rattle.sheet_found.proofs.more.Statement.{statement}
+use Rattle.sheet_found.proofs.more.Tie as tie
 
 add-requires : tie.Need-add-requires
 add-requires c κs = tt

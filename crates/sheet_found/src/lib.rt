@@ -1,7 +1,7 @@
-// Reports and packets found in a capture so far (specs/Found).
+// Reports and packets found in a capture so far, for the line sheet, report by report (specs/Found).
 ghost use mathlib.Core.Path.{_≡_};
 ghost use Rattle.sheet_rules.specs.Counts.{isData, isDack, isNumbered, numberAfter};
-ghost use Rattle.sheet_counter.specs.Found.{freshFound, foundWith, more};
+ghost use Rattle.sheet_found.specs.Found.{freshFound, foundWith, more};
 use dlc_packet::Kind;
 use qaft_report::Report;
 
