@@ -90,41 +90,35 @@ fn run_with(words: &[String], portions: Vec<Vec<u8>>) -> Run {
     })
 }
 
-/// Whether a message says that a file is being read, and not that it was not counted.
-fn is_progress(message: &str) -> bool {
-    message.ends_with(": reading")
+/// The messages that say that a file is being read, or the others, which say that one was not counted.
+fn messages(run: &Run, reading: bool) -> Vec<&str> {
+    let lines = run.messages.lines();
+    lines
+        .filter(|line| line.ends_with(": reading") == reading)
+        .collect()
+}
+
+fn names(messages: &[&str], file: &str) -> bool {
+    messages.iter().any(|line| line.contains(file))
 }
 
 /// Where there are several captures, each that has a line number is named before it is read; one alone is not.
 fn progress(run: &Run, entries: &[Entry]) -> bool {
-    let read: Vec<&str> = run
-        .messages
-        .lines()
-        .filter(|line| is_progress(line))
-        .collect();
+    let read = messages(run, true);
     let numbered = entries.iter().filter(|entry| number(&entry.line).is_some());
     let files: Vec<&str> = numbered.map(|entry| entry.file.as_str()).collect();
     if entries.len() < 2 {
         return read.is_empty();
     }
-    read.len() == files.len()
-        && read
-            .iter()
-            .zip(files)
-            .all(|(line, file)| line.contains(file))
+    let mut pairs = read.iter().zip(&files);
+    read.len() == files.len() && pairs.all(|(line, file)| line.contains(file))
 }
 
 /// What is seen of a run.
 fn seen(run: &Run, entries: &[Entry]) -> Seen {
-    let refused: Vec<&str> = run
-        .messages
-        .lines()
-        .filter(|line| !is_progress(line))
-        .collect();
+    let refused = messages(run, false);
     let files = entries.iter().map(|entry| entry.file.clone());
-    let mut named: Vec<String> = files
-        .filter(|file| refused.iter().any(|line| line.contains(file)))
-        .collect();
+    let mut named: Vec<String> = files.filter(|file| names(&refused, file)).collect();
     named.sort();
     named.dedup();
     Seen {
@@ -207,7 +201,8 @@ fn longest(files: &Files, tally: &mut Tally) {
     for number in [51, 0, 51, 0, 0] {
         tally.number(number);
     }
-    let named = [one, flag, above, most].map(|file| run.messages.contains(&file));
+    let refused = messages(&run, false);
+    let named = [one, flag, above, most].map(|file| names(&refused, &file));
     let archive = (String::from_utf8_lossy(&run.output).into_owned(), named);
     let ours = (sheet::sheet(&table), [true, false, true, false]);
     tally.inputs(5, &ours, &archive, || format!("{words:?}"));
