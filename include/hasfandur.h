@@ -7,7 +7,8 @@
  * argument that a C program can pass as its comment says: a pointer to `length` octets, or to as many records as is said, that are the
  * caller's, and that no other argument overlaps where they are written. That this header says of them what is proved is compared and
  * tested (numbers, types, every call), not proved.
- * No function allocates, keeps a pointer, or fails: what it can't do it refuses by a number, and a refusal writes nothing.
+ * No function allocates, keeps a pointer, or fails: what it can't do it refuses by a number, and a refusal changes nothing
+ * that it was lent.
  * A pointer with length 0 is not read, and may be null.
  */
 #ifndef HASFANDUR_H
@@ -461,8 +462,8 @@ hasfandur_counts hasfandur_sheet_count(uint8_t level, const uint8_t *capture, si
  * HASFANDUR_SHEET_LINES records, or longer: those past number 63 are never changed.
  *
  * Refusals, the first that applies: HASFANDUR_QAFT_BAD_LEVEL; HASFANDUR_SHEET_NO_LINE (`line` is not under HASFANDUR_SHEET_LINES, or
- * not under `lines`); HASFANDUR_SHEET_COUNT_TOO_LARGE (a count of the record would pass 4,294,967,295). A refusal changes no record.
- * Otherwise HASFANDUR_DONE, and every record but the line's is as before.
+ * not under `lines`); HASFANDUR_SHEET_COUNT_TOO_LARGE (a count of the record would pass 4,294,967,295). A refusal changes no record
+ * (the line's may be written as it was). Otherwise HASFANDUR_DONE, and every record but the line's is as before.
  */
 uint8_t hasfandur_sheet_tally(uint8_t level, const uint8_t *capture, size_t capture_length, size_t line, hasfandur_tally *table,
                               size_t lines);
