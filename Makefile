@@ -24,7 +24,8 @@ MAN_AT = $(DESTDIR)$(MANDIR)/man1
 
 all: $(ARCHIVE) $(BUILT)
 
-$(ARCHIVE): $(SOURCES)
+# its members are named in this file
+$(ARCHIVE): $(SOURCES) Makefile
 	set -e; for member in $(MEMBERS); do rt staticlib $$member; done
 	rm -f $@
 	printf '%s\n' 'create $@' $(MEMBERS:%='addlib target/staticlib/lib%.a') save end | ar -M

@@ -1,3 +1,4 @@
 pub mod Octets
+pub mod Packets
 pub mod Repeats
 pub mod Theorems
