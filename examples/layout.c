@@ -86,12 +86,12 @@ FIELD(hasfandur_reading, supplementary, 40, 16);
 FIELD(hasfandur_reading, payload, 56, 16);
 FIELD(hasfandur_reading, unchecked, 72, 1);
 
-static_assert(sizeof(hasfandur_counts) == 104, "hasfandur_counts");
+static_assert(sizeof(hasfandur_counts) == 112, "hasfandur_counts");
 FIELD(hasfandur_counts, number, 0, 1);
-FIELD(hasfandur_counts, counts, 8, 96);
+FIELD(hasfandur_counts, counts, 8, 104);
 
-static_assert(sizeof(hasfandur_tally) == 48, "hasfandur_tally");
-FIELD(hasfandur_tally, counts, 0, 48);
+static_assert(sizeof(hasfandur_tally) == 52, "hasfandur_tally");
+FIELD(hasfandur_tally, counts, 0, 52);
 
 static_assert(HASFANDUR_QAFT_FRAME_SIZE(HASFANDUR_QAFT_MAX_DATA) == HASFANDUR_QAFT_MAX_FRAME, "longest QAFT frame");
 static_assert(HASFANDUR_KISS_FRAME_SIZE(HASFANDUR_QAFT_MAX_DATA) == HASFANDUR_KISS_MAX_FRAME, "longest KISS frame");

@@ -11,6 +11,10 @@
 static const uint8_t paper[] = {0xAA, 0x7E, 0x40, 0x41, 0x7F, 0x7E, 0x10, 0x7D, 0x7E, 0x7E, 0x05, 0x7E, 0x33};
 static const uint8_t packets[] = {0x7E, 0x40, 0xC0, 0x7E, 0x51, 0xAF, 0x7E, 0x40, 0xC0, 0x7E, 0x7E, 0x41, 0xBE, 0x7E};
 
+/* 11 and 13 before the first flag, in a DATA and between 7D and its partner there, alone, behind a 7D, and after the last flag */
+static const uint8_t flow_control[] = {0x11, 0x41, 0x7E, 0x13, 0x40, 0x7D, 0x11, 0x33, 0xAD,
+                                       0x7E, 0x11, 0x13, 0x7E, 0x7D, 0x13, 0x7E, 0x05, 0x13};
+
 static void count_case(const char *name, uint8_t level, const uint8_t *capture, size_t length)
 {
     hasfandur_counts c = hasfandur_sheet_count(level, capture, length);
@@ -27,6 +31,8 @@ static void count_cases(void)
 {
     count_case("the paper's capture", 0, paper, sizeof paper);
     count_case("packets", 1, packets, sizeof packets);
+    count_case("flow control", 1, flow_control, sizeof flow_control);
+    count_case("the same at level 0", 0, flow_control, sizeof flow_control);
     count_case("no flag", 0, paper + 2, 3);
     count_case("nothing", 0, NULL, 0);
     count_case("level 2", 2, paper, sizeof paper);
@@ -61,6 +67,7 @@ static void tally_cases(void)
     tally_case("line 1", 0, paper, sizeof paper, 1, table, 3);
     tally_case("line 1 again", 0, packets, sizeof packets, 1, table, 3);
     tally_case("line 63", 0, packets, sizeof packets, 63, table, all);
+    tally_case("line 63 again", 1, flow_control, sizeof flow_control, 63, table, all);
 
     /* no such record; a record that is past the lines */
     tally_case("line 3 of 3", 0, paper, sizeof paper, 3, table, 3);

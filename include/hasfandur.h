@@ -24,8 +24,8 @@ extern "C" {
 
 /* The version, and the same as one number to compare: 10000 for the first part, 100 for the second. */
 /* begin version: written by include/numbers */
-#define HASFANDUR_VERSION "0.4.0"
-#define HASFANDUR_VERSION_NUMBER 400
+#define HASFANDUR_VERSION "0.5.0"
+#define HASFANDUR_VERSION_NUMBER 500
 /* end version */
 
 /* On calls that give a state or a link back: who drops it goes on with the old one. */
@@ -100,8 +100,8 @@ enum hasfandur_number {
 #define HASFANDUR_AFP_MAX_HEADER 254 /* the longest */
 #define HASFANDUR_AFP_MAX_DATA 2304 /* data of an AFP frame, which may be none */
 #define HASFANDUR_SHEET_LINES 64 /* lines of a sheet: a line number is below this */
-#define HASFANDUR_SHEET_COUNTS 12 /* counts of a line */
-#define HASFANDUR_SHEET_MAX_LINE 315 /* the line printer's `out`, at least: room for every printed line */
+#define HASFANDUR_SHEET_COUNTS 13 /* counts of a line */
+#define HASFANDUR_SHEET_MAX_LINE 336 /* the line printer's `out`, at least: room for every printed line */
 /* end sizes */
 
 /* An `out` of this size has room for the QAFT frame of n data octets, whatever they are; one for the KISS frame of n payload octets;
@@ -128,7 +128,7 @@ uint8_t hasfandur_qaft_check(const uint8_t *octets, size_t length);
 
 /*
  * Writes one QAFT frame to the front of `out`: a flag (unless `at_flag` says that the line stands at one), data and check
- * octet with their escapes, a flag. Level 0 escapes 7E and 7D, level 1 also 11 and 13.
+ * octet with their escapes, a flag. Level 0 escapes 7E and 7D, level 1 also 11 and 13, which its reader skips where they stand raw.
  *
  * Refusals, the first that applies: HASFANDUR_QAFT_BAD_LEVEL (level over 1), _NO_DATA, _DATA_TOO_LONG, _OUT_TOO_SMALL (by the
  * length of this very frame). A refusal writes nothing. Otherwise HASFANDUR_DONE, with the frame's length; octets of `out`
@@ -165,7 +165,8 @@ HASFANDUR_MUST_USE hasfandur_qaft_reader hasfandur_qaft_fresh(uint8_t level);
 /*
  * Reads a chunk of a line up to its first report. Hand the rest of the chunk, from `taken` on, to the next call, with the
  * state that came back and the same buffer; after HASFANDUR_QAFT_USED_UP go on with the next chunk. Octets are stored in the
- * buffer as they come, escapes undone; the reader judges by its state alone.
+ * buffer as they come, escapes undone; the reader judges by its state alone. At level 1 a raw 11 or 13 is flow control: it is taken
+ * and changes nothing, also between 7D and its partner, so that two flags with nothing else between them give no report.
  *
  * Refusals, the first that applies: HASFANDUR_QAFT_BAD_LEVEL, _BUFFER_TOO_SMALL (under HASFANDUR_QAFT_MAX_SEGMENT octets),
  * _BAD_STATE (a state that no line leads to). A refusal takes nothing, writes nothing, and gives the very state back that came.
@@ -420,25 +421,27 @@ hasfandur_afp_written hasfandur_afp_write(uint8_t protocol, const uint8_t *stati
  * The monthly line sheet: what captures of QAFT lines count, added up line by line.
  *
  * The counts stand in this order, in which they are printed, in what a capture counts and in a line's record. Octets are those of the
- * line, escapes not undone, so what a capture adds to the four octet counts adds up to its length. An empty segment (two flags side by
- * side) gives no report and has no octets. DATA and DACK are frames whose data is such a packet, and would not be refused on arrival by
- * HASFANDUR_DLC_BAD_PACKET. A repeat is a DATA whose number equals that of the DATA before it in the same capture, whatever was
- * reported between them.
+ * line, escapes not undone, so what a capture adds to the five octet counts adds up to its length. Raw 11 and 13 at level 1 are skipped:
+ * between two flags they are counted apart, and before the first flag and after the last as every octet there. A segment of nothing else
+ * is empty, as is one of no octets, and gives no report. DATA and DACK are frames whose data is such a packet, and would not be refused
+ * on arrival by HASFANDUR_DLC_BAD_PACKET. A repeat is a DATA whose number equals that of the DATA before it in the same capture, whatever
+ * was reported between them.
  */
 /* begin counts: written by include/numbers */
 enum hasfandur_sheet_place {
     HASFANDUR_SHEET_BEFORE = 0, /* octets before the first flag; all where there is none */
     HASFANDUR_SHEET_FLAGS = 1, /* flags */
-    HASFANDUR_SHEET_IN_SEGMENTS = 2, /* octets in reported segments */
+    HASFANDUR_SHEET_IN_SEGMENTS = 2, /* octets in reported segments, without skipped ones */
     HASFANDUR_SHEET_AFTER = 3, /* octets after the last flag */
-    HASFANDUR_SHEET_FRAMES = 4, /* reports HASFANDUR_QAFT_FRAME */
-    HASFANDUR_SHEET_ABORTED = 5, /* reports HASFANDUR_QAFT_ABORTED */
-    HASFANDUR_SHEET_LONG = 6, /* reports HASFANDUR_QAFT_LONG */
-    HASFANDUR_SHEET_SHORT = 7, /* reports HASFANDUR_QAFT_SHORT */
-    HASFANDUR_SHEET_BAD_CHECKS = 8, /* reports HASFANDUR_QAFT_BAD_CHECK */
-    HASFANDUR_SHEET_DATA = 9, /* DATA packets */
-    HASFANDUR_SHEET_DACK = 10, /* DACK packets */
-    HASFANDUR_SHEET_REPEATS = 11 /* DATA packets with the number of the DATA before them */
+    HASFANDUR_SHEET_SKIPPED = 4, /* skipped octets between two flags, in reported segments and in empty ones */
+    HASFANDUR_SHEET_FRAMES = 5, /* reports HASFANDUR_QAFT_FRAME */
+    HASFANDUR_SHEET_ABORTED = 6, /* reports HASFANDUR_QAFT_ABORTED */
+    HASFANDUR_SHEET_LONG = 7, /* reports HASFANDUR_QAFT_LONG */
+    HASFANDUR_SHEET_SHORT = 8, /* reports HASFANDUR_QAFT_SHORT */
+    HASFANDUR_SHEET_BAD_CHECKS = 9, /* reports HASFANDUR_QAFT_BAD_CHECK */
+    HASFANDUR_SHEET_DATA = 10, /* DATA packets */
+    HASFANDUR_SHEET_DACK = 11, /* DACK packets */
+    HASFANDUR_SHEET_REPEATS = 12 /* DATA packets with the number of the DATA before them */
 };
 /* end counts */
 

@@ -1,16 +1,18 @@
 -- Octets counted one by one, and a chunk at once: the same. Assumes nothing.
-use Prim.Native.Nat.{ℕ, suc, _+_, _-_, _≤_, _<_}
+use Prim.Native.Nat.{ℕ, suc, _+_, _-_, _≤_}
 use mathlib.Core.Bool.{Bool, true, false, cond}
 use mathlib.Core.List.{List, [], _∷_, _++_}
 use mathlib.Core.Path.{_≡_, refl, sym, ap, _∙_}
 use native.Mathlib.Nat.{pos-of-ne-zero}
 use native.Mathlib.Omega.{arith}
+use borrow.Author.Tests.{eq-eqb, ne-eqb, eqb-true, eqb-false}
 use lib.Dec.{eqb}
 use lib.ListN.{length}
-use Rattle.capture.proofs.Flags.{flags-none, closed-none, flags-zero, flags-some, parts-add-up, closed-is}
-use Rattle.capture.specs.Octets.{plainAdded, flagAdded, count, countAll, flagsAdded}
+use Rattle.capture.proofs.Flags.{flags-none, before-all, closed-none, between-none, after-none, flags-zero, flags-some, parts-add-up, closed-is}
+use Rattle.capture.specs.Octets.{plainAdded, flagAdded, count, countAll, flagsAdded, partsOf, partsAdded}
 use Rattle.capture.specs.Whole.{before, flags, closed, between, after}
 use Rattle.capture.specs.declared.Octets.{Octets}
+use Rattle.capture.specs.declared.Parts.{Parts}
 use Rattle.common.proofs.Bools.{either}
 use Rattle.counter.proofs.Counting.{counted-none, counted-more, counted-stopped}
 use Rattle.counter.specs.Counted.{counted}
@@ -55,6 +57,16 @@ module _ (most : ℕ) where
   unfolding flagsAdded
   flags-are c n inner last f m b a fe me be ae =
       λ i. record { synced = true; before = c .before; flags = fe i; between = (be ∙ ap (λ (m : ℕ). counted most m inner) me) i; after = ae i }
+
+  -- octets with parts, as the code goes: o is with those before the first flag
+  module _ (c : Octets) (p : Parts) (o : Octets) (oe : o ≡ plainAdded most c (p .before)) where
+    pub with-none : p .flags ≡ 0 → o ≡ partsAdded most c p
+    unfolding partsAdded
+    with-none h = rw (eq-eqb _ _ h) oe
+
+    pub with-some : (p .flags ≡ 0 → ⊥) → (r : Octets) → r ≡ flagsAdded most o (p .flags) (p .between) (p .after) → r ≡ partsAdded most c p
+    unfolding partsAdded
+    with-some h r re = rw (ne-eqb _ _ h) (re ∙ ap (λ (o : Octets). flagsAdded most o (p .flags) (p .between) (p .after)) oe)
 
 module _ (most flag : ℕ) where
   -- chunk after chunk is the whole line
@@ -138,20 +150,31 @@ module _ (most flag : ℕ) where
       go true e h ih = flagged-flag x l ih e (hasFlag flag l) refl c
       go false e h ih = flagged-other x l ih e h c
 
+  -- so a chunk's octets one by one are its parts at once
+  countAll-parts : (l : List ℕ) (c : Octets) → countAll most flag c l ≡ partsAdded most c (partsOf flag l)
+  unfolding partsAdded
+  countAll-parts l c = go (eqb (flags flag l) 0) refl
+    where
+      go : (b : Bool) → eqb (flags flag l) 0 ≡ b → countAll most flag c l ≡ cond b (plainAdded most c (before flag l)) (atOnce c l)
+      go true e = let k = flags-zero flag l (eqb-true _ _ e) in countAll-plain l c k ∙ ap (plainAdded most c) (sym (before-all flag l k))
+      go false e = countAll-flagged l c (flags-some flag l (pos-of-ne-zero (eqb-false _ _ e)))
+
+  -- as the code goes: p are the chunk's parts
+  pub parts-added : (l : List ℕ) (c : Octets) (p : Parts) (r : Octets) → p ≡ partsOf flag l → r ≡ partsAdded most c p → r ≡ countAll most flag c l
+  parts-added l c p r pe re = re ∙ ap (partsAdded most c) pe ∙ sym (countAll-parts l c)
+
 -- ---- as the code goes, on the chunk l: n is how many flags it has, and f and a how many octets stand before the first and after the last
 module _ (flag : ℕ) (l : List ℕ) (n : ℕ) (ne : n ≡ flags flag l) where
-  pub added-plain : (most : ℕ) (c : Octets) → n ≡ 0 → (r : Octets) → r ≡ plainAdded most c (length l) → r ≡ countAll most flag c l
-  added-plain most c h r e = e ∙ sym (countAll-plain most flag l c (flags-zero flag l (sym ne ∙ h)))
+  pub parts-none : n ≡ 0 → _≡_ {A = Parts} (record { before = length l; flags = n; between = 0; after = 0 }) (partsOf flag l)
+  parts-none h =
+      let k = flags-zero flag l (sym ne ∙ h) in
+      λ i. record { before = sym (before-all flag l k) i; flags = ne i; between = sym (between-none flag l k) i; after = sym (after-none flag l k) i }
 
   module _ (f a : ℕ) (fe : f ≡ before flag l) (ae : a ≡ after flag l) where
     pub parts-within : n + f + a ≤ length l
     parts-within = omega (arith, ne, fe, ae, parts-add-up flag l)
 
-    pub added-flags : (most : ℕ) (c : Octets) → (n ≡ 0 → ⊥) → (o r : Octets) → o ≡ plainAdded most c f → r ≡ flagsAdded most o n (length l - n - f - a) a → r ≡ countAll most flag c l
-    added-flags most c h o r oe re =
-        let some : 0 < n = pos-of-ne-zero h in
-        let k : hasFlag flag l ≡ true = flags-some flag l (omega (arith, ne)) in
+    pub parts-some : _≡_ {A = Parts} (record { before = f; flags = n; between = length l - n - f - a; after = a }) (partsOf flag l)
+    parts-some =
         let inner : length l - n - f - a ≡ between flag l = omega (arith, ne, fe, ae, parts-add-up flag l) in
-        re
-        ∙ (λ i. flagsAdded most ((oe ∙ ap (plainAdded most c) fe) i) (ne i) (inner i) (ae i))
-        ∙ sym (countAll-flagged most flag l c k)
+        λ i. record { before = fe i; flags = ne i; between = inner i; after = ae i }

@@ -1,15 +1,21 @@
--- The octets of a capture counted one by one, chunk after chunk. Cited by `Octets::add`; what the counts are of a whole capture is a law
--- (proofs/Whole). Assumes nothing.
+-- The octets of a capture counted one by one, chunk after chunk. Cited by `Octets::add` and `Octets::with`; what the counts are of a whole capture is
+-- a law (proofs/Whole), and so is that a chunk's octets one by one are its parts at once (proofs/Counting). Assumes nothing.
 use Prim.Native.Nat.{ℕ}
 use mathlib.Core.Bool.{true, false, cond}
 use mathlib.Core.List.{List, [], _∷_}
 use lib.Dec.{eqb}
+use Rattle.capture.specs.Whole.{before, flags, between, after}
 use Rattle.capture.specs.declared.Octets.{Octets}
+use Rattle.capture.specs.declared.Parts.{Parts}
 use Rattle.counter.specs.Counted.{counted}
 
 -- nothing read yet
 abbrev pub freshOctets : Octets
 freshOctets = record { synced = false; before = 0; flags = 0; between = 0; after = 0 }
+
+-- the parts of a chunk
+abbrev pub partsOf : (flag : ℕ) → List ℕ → Parts
+partsOf flag l = record { before = before flag l; flags = flags flag l; between = between flag l; after = after flag l }
 
 module _ (most : ℕ) where
   -- n octets that are no flags: after the flag that came last, or before any
@@ -41,3 +47,7 @@ module _ (most : ℕ) where
     between = counted most (counted most (c .between) (c .after)) inner;
     after = counted most 0 last;
   }
+
+  -- octets with these parts at once
+  unfoldable pub partsAdded : Octets → Parts → Octets
+  partsAdded c p = let o = plainAdded c (p .before) in cond (eqb (p .flags) 0) o (flagsAdded o (p .flags) (p .between) (p .after))

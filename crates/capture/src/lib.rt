@@ -1,10 +1,10 @@
 // A captured line: its raw octets before the first flag, between flags and after the last, and its flags, counted chunk after chunk
-// (specs/Octets; of a whole capture: specs/Whole). What stands between the first flag of a chunk and its last is counted at once.
+// (specs/Octets; of a whole capture: specs/Whole). A chunk is taken apart (`parts_of`), and its parts are counted at once (`Octets::with`).
 ghost use Prim.Native.Nat.{_+_, _≤_, _<_};
 ghost use mathlib.Core.Bool.{cond};
 ghost use mathlib.Core.Path.{_≡_};
 ghost use lib.ListN.{length};
-ghost use Rattle.capture.specs.Octets.{freshOctets, plainAdded, flagsAdded, countAll};
+ghost use Rattle.capture.specs.Octets.{freshOctets, plainAdded, flagsAdded, countAll, partsOf, partsAdded};
 ghost use Rattle.capture.specs.Whole.{before, flags, after};
 
 // Octets of a chunk whose flags are counted in one octet.
@@ -17,6 +17,14 @@ pub struct Octets {
     pub flags: u64,
     pub between: u64,
     pub after: u64,
+}
+
+// Octets of a chunk before its first flag, its flags, octets between two of them, octets after the last.
+pub struct Parts {
+    pub before: usize,
+    pub flags: usize,
+    pub between: usize,
+    pub after: usize,
 }
 
 impl Octets {
@@ -36,15 +44,23 @@ impl Octets {
     pub fn add(self, flag: u8, most: u64, chunk: &[u8]) -> Self
         ensures { λ r. ⌜ r ≡ countAll most flag self (now (chunk .entry)) ⌝ }
     {
-        let n = flags_in(flag, chunk);
-        if n == 0 {
-            return self.with_plain(most, chunk.len() as u64);
+        self.with(most, parts_of(flag, chunk))
+    }
+
+    // With octets that have these parts.
+    pub fn with(self, most: u64, parts: Parts) -> Self
+        ensures { λ r. ⌜ r ≡ partsAdded most self parts ⌝ }
+    {
+        let opened = self.with_plain(most, parts.before as u64);
+        if parts.flags == 0 {
+            return opened;
         }
-        let first = octets_before(flag, chunk);
-        let last = octets_after(flag, chunk);
-        let inner = chunk.len() - n - first - last;
-        let opened = self.with_plain(most, first as u64);
-        opened.with_flags(most, n as u64, inner as u64, last as u64)
+        opened.with_flags(
+            most,
+            parts.flags as u64,
+            parts.between as u64,
+            parts.after as u64,
+        )
     }
 
     // With n octets that are no flags.
@@ -84,8 +100,32 @@ impl Octets {
     }
 }
 
-// The flags of a chunk, part after part.
-fn flags_in(flag: u8, chunk: &[u8]) -> usize
+// The parts of a chunk; where it has no flag, all octets are before.
+pub fn parts_of(flag: u8, chunk: &[u8]) -> Parts
+    ensures { λ r. ⌜ r ≡ partsOf flag (now (chunk .entry)) ⌝ }
+{
+    let flags = flags_in(flag, chunk);
+    if flags == 0 {
+        return Parts {
+            before: chunk.len(),
+            flags,
+            between: 0,
+            after: 0,
+        };
+    }
+    let before = octets_before(flag, chunk);
+    let after = octets_after(flag, chunk);
+    let between = chunk.len() - flags - before - after;
+    Parts {
+        before,
+        flags,
+        between,
+        after,
+    }
+}
+
+// The flags of a chunk, in pieces of `PART` octets. The flag may be any octet: so others are counted too.
+pub fn flags_in(flag: u8, chunk: &[u8]) -> usize
     ensures { λ r. ⌜ r ≡ flags flag (now (chunk .entry)) ⌝ }
 {
     let mut n = 0;

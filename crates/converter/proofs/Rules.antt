@@ -45,7 +45,7 @@ lawful true level = told-lawful (qaftRules.rules level) gistOfQaft 0 gistLength 
 lawful false level = told-lawful kissRules.rules gistOfKiss typeSize gistLength kissLaws.lawful (λ p. refl) kiss-length
 
 -- the rule of the shared loop
-pub rule-rules : (toKiss : Bool) (level : ℕ) → rulesOf (ruleOf toKiss) ≡ closing (sourceRules toKiss level)
+pub rule-rules : (toKiss : Bool) (level : ℕ) → rulesOf (ruleOf toKiss level) ≡ closing (sourceRules toKiss level)
 rule-rules true level = qaftReader.rule-rules level ∙ told-closing (qaftRules.rules level) gistOfQaft 0 gistLength
 rule-rules false level = kissReader.rule-rules ∙ told-closing kissRules.rules gistOfKiss typeSize gistLength
 

@@ -27,9 +27,9 @@ use Rattle.qaft.specs.Answers.{done}
 use Rattle.qaft.specs.Limits.{maxData, maxSegment, maxFrame}
 
 -- both framings store as many octets of a segment
-pub cap-is : (toKiss : Bool) → ruleOf toKiss .cap ≡ maxSegment
-cap-is true = refl
-cap-is false = refl
+pub cap-is : (toKiss : Bool) (level : ℕ) → ruleOf toKiss level .cap ≡ maxSegment
+cap-is true level = refl
+cap-is false level = refl
 
 -- the octets of a frame are no more than a frame has
 pub within-length : (g : Gist) → Within g → gistLength g ≤ maxData
@@ -39,10 +39,10 @@ within-length Other h = omega arith
 
 module _ (c : Converter) where
   abbrev pub textsAt : Tally → (out : List ℕ) (at : ℕ) → Texts Tally
-  textsAt = turns.textsAt (reportText (c .«to_kiss») (c .level)) counted maxFrame (ruleOf (c .«to_kiss»)) (sourceRules (c .«to_kiss») (c .level)) (rule-rules (c .«to_kiss») (c .level))
+  textsAt = turns.textsAt (reportText (c .«to_kiss») (c .level)) counted maxFrame (ruleOf (c .«to_kiss») (c .level)) (sourceRules (c .«to_kiss») (c .level)) (rule-rules (c .«to_kiss») (c .level))
 
   abbrev pub onwards : declared.State → (xs m : List ℕ) → Texts Tally → Gathered (State ℕ) (Texts Tally)
-  onwards = turns.onwards (reportText (c .«to_kiss») (c .level)) counted maxFrame (ruleOf (c .«to_kiss»)) (sourceRules (c .«to_kiss») (c .level)) (rule-rules (c .«to_kiss») (c .level))
+  onwards = turns.onwards (reportText (c .«to_kiss») (c .level)) counted maxFrame (ruleOf (c .«to_kiss») (c .level)) (sourceRules (c .«to_kiss») (c .level)) (rule-rules (c .«to_kiss») (c .level))
 
   -- an answer, with the buffers after it
   pub answered : (whole : Gathered (State ℕ) (Texts Tally)) (s : declared.State) (t : Tally) (m out : List ℕ) (i at : ℕ) (d : Converter)

@@ -57,8 +57,8 @@ abbrev pub sourceRules : (toKiss : Bool) (level : ℕ) → Rules ℕ Gist
 sourceRules toKiss level = cond toKiss (told (qaftRules.rules level) gistOfQaft 0 gistLength) (told kissRules.rules gistOfKiss typeSize gistLength)
 
 -- the same as the rule of the shared loop
-abbrev pub ruleOf : (toKiss : Bool) → Rule
-ruleOf toKiss = cond toKiss qaftReader.rule kissReader.rule
+abbrev pub ruleOf : (toKiss : Bool) (level : ℕ) → Rule
+ruleOf toKiss level = cond toKiss (qaftReader.rule level) kissReader.rule
 
 -- the gist of the segment that a flag found in the state s
 abbrev pub gistOf : (toKiss : Bool) (level : ℕ) → State → Gist

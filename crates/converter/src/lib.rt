@@ -194,7 +194,7 @@ fn put_frames(c: Converter, chunk: &[u8], buffer: &mut [u8], out: &mut [u8]) -> 
     ensures { λ _. ⌜ now (out .exit) ≡ callOf c (gathered c (now (chunk .entry)) (now (buffer .entry)) (now (out .entry))) .out ⌝ }
 {
     let last = out.len() - MAX_FRAME;
-    let rule = source_rule(c.to_kiss);
+    let rule = source_rule(c.to_kiss, c.level);
     let mut state = c.state;
     let mut tally = c.tally;
     let mut i = 0;
@@ -235,11 +235,11 @@ fn too_small(to_kiss: bool) -> u8
 }
 
 // How the deframer is to read the capture.
-fn source_rule(to_kiss: bool) -> Rule
-    ensures { λ r. ⌜ r ≡ ruleOf «to_kiss» ⌝ }
+fn source_rule(to_kiss: bool, level: u8) -> Rule
+    ensures { λ r. ⌜ r ≡ ruleOf «to_kiss» level ⌝ }
 {
     if to_kiss {
-        return qaft_read::rule();
+        return qaft_read::rule(level);
     }
     kiss_read::rule()
 }

@@ -1,6 +1,6 @@
 -- Runs of octets in the shared loop: what is found is a run, and what it does at once is what its octets do one by one. Assumes nothing.
 use Prim.Native.Nat.{ℕ, _+_, _-_, _≤_, _<_}
-use mathlib.Core.Bool.{Bool, true, false, cond, _||_}
+use mathlib.Core.Bool.{Bool, true, false, cond, _&&_, _||_}
 use mathlib.Core.List.{List, [], _∷_}
 use mathlib.Core.Path.{_≡_, refl, sym, ap, ap₂, subst, _∙_}
 use native.Mathlib.Omega.{arith}
@@ -29,7 +29,7 @@ module _ (r : Rule) where
   -- an octet that is not escaped stands for itself
   not-special : (x : ℕ) → isEscaped (r .escapes) x ≡ false → isSpecial (rulesOf r) x ≡ false
   unfolding isSkipped isEscaped
-  not-special x e = go (eqb x (r .escapes .flag)) (eqb x (r .escapes .escape)) (eqb x (r .escapes .third) || eqb x (r .escapes .fourth)) e
+  not-special x e = go (eqb x (r .escapes .flag)) (eqb x (r .escapes .escape)) (r .escapes .others && (eqb x (r .escapes .third) || eqb x (r .escapes .fourth))) e
     where
       go : (f g h : Bool) → (f || (g || h)) ≡ false → (f || (g || cond f false (cond g false (f || (g || h))))) ≡ false
       go true g h e = e

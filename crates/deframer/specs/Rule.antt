@@ -23,9 +23,10 @@ firstCheck = 2
 unfoldable pub isSkipped : Rule → (x : ℕ) → Bool
 isSkipped r x = cond (eqb x (r .escapes .flag)) false (cond (eqb x (r .escapes .escape)) false (isEscaped (r .escapes) x))
 
--- the octet that y, behind the escape, stands for; "another octet stands for itself", or for itself masked
+-- the octet that y, behind the escape, stands for: y masked; where there is no mask, the octet that is escaped as y, and "another octet stands for
+-- itself"
 unfoldable pub partnerOf : Rule → (y : ℕ) → ℕ
-partnerOf r y = cond (isPartner (r .escapes) y) (standsFor (r .escapes) y) (bitXor y (r .mask))
+partnerOf r y = cond (eqb (r .mask) 0) (cond (isPartner (r .escapes) y) (standsFor (r .escapes) y) y) (bitXor y (r .mask))
 
 unfoldable pub isBadPair : Rule → (y : ℕ) → Bool
 isBadPair r y = r .strict && not (isPartner (r .escapes) y)

@@ -23,8 +23,8 @@ pub const REGISTER: u8 = 1;
 
 pub const FIRST: u8 = 2;
 
-// How a line is read. `mask`: what an octet behind the escape is combined with, by exclusive or, where it stands for no octet that
-// is escaped; `strict`: whether such a pair is bad. `cap`: how many octets of a segment are stored. `check`: the running check.
+// How a line is read. `mask`: what an octet behind the escape is combined with, by exclusive or; 0: there is no mask, and such an octet
+// stands for the one that is escaped so, or for itself. `strict`: whether a pair is bad that stands for no octet that is escaped. `cap`: how many octets of a segment are stored. `check`: the running check.
 pub struct Rule {
     pub escapes: Escapes,
     pub mask: u8,
@@ -227,11 +227,15 @@ impl Rule {
     fn partner(self, y: u8) -> u8
         ensures { λ r. ⌜ r ≡ partnerOf self y ⌝ }
     {
+        let mask = self.mask;
+        if mask != 0 {
+            return y ^ mask;
+        }
         let e = self.escapes;
         if pair::is_partner(e, y) {
             return pair::stands_for(e, y);
         }
-        y ^ self.mask
+        y
     }
 
     // Whether a bad pair came in the segment, where the last stands behind the escape as y.

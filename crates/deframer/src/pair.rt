@@ -7,7 +7,7 @@ pub(crate) fn is_partner(e: Escapes, y: u8) -> bool
     ensures { λ r. ⌜ r ≡ isPartner e y ⌝ }
 {
     (y == e.behind_flag)
-        | ((y == e.behind_escape) | ((y == e.behind_third) | (y == e.behind_fourth)))
+        | ((y == e.behind_escape) | (e.others & ((y == e.behind_third) | (y == e.behind_fourth))))
 }
 
 pub(crate) fn stands_for(e: Escapes, y: u8) -> u8

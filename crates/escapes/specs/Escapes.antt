@@ -1,19 +1,19 @@
 -- Which octets of a flagged line are escaped, and what stands for each behind the escape. Cited by the contracts of writers and readers. Assumes
 -- nothing.
 --
---   isEscaped e x   whether the octet x is one of the four that are escaped
+--   isEscaped e x   whether the octet x is escaped: the flag, the escape, and, if so, two others
 --   behind e x      what stands behind the escape for it
---   isPartner e y   whether y, behind the escape, stands for one of the four
+--   isPartner e y   whether y, behind the escape, stands for one of them
 --   standsFor e y   for which
 --   writingOf e     the same, as what is written goes by it
 use Prim.Native.Nat.{ℕ}
-use mathlib.Core.Bool.{Bool, cond, _||_}
+use mathlib.Core.Bool.{Bool, cond, _&&_, _||_}
 use lib.Dec.{eqb}
 use Rattle.framing.specs.Writing.{Writing}
 use Rattle.escapes.specs.declared.Escapes.{Escapes}
 
 unfoldable pub isEscaped : Escapes → (x : ℕ) → Bool
-isEscaped e x = eqb x (e .flag) || (eqb x (e .escape) || (eqb x (e .third) || eqb x (e .fourth)))
+isEscaped e x = eqb x (e .flag) || (eqb x (e .escape) || (e .others && (eqb x (e .third) || eqb x (e .fourth))))
 
 unfoldable pub behind : Escapes → (x : ℕ) → ℕ
 behind e x =
@@ -23,7 +23,7 @@ behind e x =
     (e .«behind_fourth»)))
 
 unfoldable pub isPartner : Escapes → (y : ℕ) → Bool
-isPartner e y = eqb y (e .«behind_flag») || (eqb y (e .«behind_escape») || (eqb y (e .«behind_third») || eqb y (e .«behind_fourth»)))
+isPartner e y = eqb y (e .«behind_flag») || (eqb y (e .«behind_escape») || (e .others && (eqb y (e .«behind_third») || eqb y (e .«behind_fourth»))))
 
 unfoldable pub standsFor : Escapes → (y : ℕ) → ℕ
 standsFor e y =

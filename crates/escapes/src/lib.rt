@@ -1,5 +1,6 @@
 // Octets that are escaped on a flagged line, and what stands for each of them behind the escape: what the writers and readers
 // of every framing go by. Definitions: specs/Escapes.
+ghost use mathlib.Core.Bool.{cond};
 ghost use mathlib.Core.Path.{_≡_};
 ghost use Prim.Native.Nat.{_+_, _≤_};
 ghost use lib.Dec.{eqb};
@@ -10,11 +11,12 @@ ghost use Rattle.escapes.specs.Escapes.{isEscaped};
 // So many octets are looked at together, without a branch: one vector of the machine.
 const BLOCK: usize = 16;
 
-// The flag, the escape and two more octets that are escaped, and what stands behind the escape for each. Where no others are
-// escaped the two are the flag and the escape once more.
+// The flag and the escape, which are escaped, two more octets, whether these are escaped too, and what stands behind the escape for
+// each.
 pub struct Escapes {
     pub flag: u8,
     pub escape: u8,
+    pub others: bool,
     pub third: u8,
     pub fourth: u8,
     pub behind_flag: u8,
@@ -28,19 +30,37 @@ impl Escapes {
     pub fn escapes(self, x: u8) -> bool
         ensures { λ r. ⌜ r ≡ isEscaped self x ⌝ }
     {
-        (x == self.flag) | ((x == self.escape) | ((x == self.third) | (x == self.fourth)))
+        let two = (x == self.flag) | (x == self.escape);
+        if self.others {
+            return two | ((x == self.third) | (x == self.fourth));
+        }
+        two
     }
 
-    // Whether none of the octets is escaped. Each of the four is looked for by itself: of that the compiler makes comparisons of
-    // whole vectors, and of one test for all four it does not.
+    // Whether none of the octets is escaped. Each is looked for by itself: of that the compiler makes comparisons of whole
+    // vectors, and of one test for all, or of a branch among them, it does not. So where the others are not escaped, the flag and
+    // the escape are looked for once more in their places.
     pub fn all_plain(self, octets: &[u8]) -> bool
         ensures { λ r. ⌜ r ≡ plain (isEscaped self) (now (octets .entry)) ⌝ }
     {
         let no_flag = lacks(octets, self.flag);
         let no_escape = lacks(octets, self.escape);
-        let no_third = lacks(octets, self.third);
-        let no_fourth = lacks(octets, self.fourth);
-        no_flag & (no_escape & (no_third & no_fourth))
+        let no_third = lacks(octets, one_of(self.others, self.third, self.flag));
+        let no_fourth = lacks(octets, one_of(self.others, self.fourth, self.escape));
+        (no_flag & no_escape) & (no_third & no_fourth)
+    }
+
+    // The same of a block of many: the others are looked for only where they are escaped. The compiler makes a loop over blocks for
+    // each of the two.
+    fn block_plain(self, block: &[u8]) -> bool
+        ensures { λ r. ⌜ r ≡ plain (isEscaped self) (now (block .entry)) ⌝ }
+    {
+        if self.others {
+            return self.all_plain(block);
+        }
+        let no_flag = lacks(block, self.flag);
+        let no_escape = lacks(block, self.escape);
+        no_flag & no_escape
     }
 
     // How many octets of the front stand before the first that is escaped.
@@ -65,7 +85,7 @@ impl Escapes {
         let mut n = 0;
         while BLOCK <= octets.len() - n {
             let next = n + BLOCK;
-            if self.all_plain(&octets[n..next]) {
+            if self.block_plain(&octets[n..next]) {
                 n = next;
             } else {
                 return n;
@@ -73,6 +93,13 @@ impl Escapes {
         }
         n
     }
+}
+
+// One of two octets.
+fn one_of(others: bool, x: u8, y: u8) -> u8
+    ensures { λ r. ⌜ r ≡ cond others x y ⌝ }
+{
+    if others { x } else { y }
 }
 
 // Whether an octet is not among others. All are looked at, so that there is no branch among them.

@@ -150,10 +150,14 @@ fn second(e: Escapes, x: u8, kept: u8) -> u8
         e.behind_flag
     } else if x == e.escape {
         e.behind_escape
-    } else if x == e.third {
-        e.behind_third
-    } else if x == e.fourth {
-        e.behind_fourth
+    } else if e.others {
+        if x == e.third {
+            e.behind_third
+        } else if x == e.fourth {
+            e.behind_fourth
+        } else {
+            kept
+        }
     } else {
         kept
     }

@@ -5,6 +5,7 @@ pub mod Meaning
 pub mod Steps
 pub mod Formed
 pub mod Skipped
+pub mod Strewn
 pub mod Patch
 pub mod Written
 pub mod Canonical

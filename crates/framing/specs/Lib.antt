@@ -2,6 +2,7 @@ pub mod Rules
 pub mod Lawful
 pub mod Step
 pub mod Reports
+pub mod Strewn
 pub mod Writing
 pub mod Stored
 pub mod Flags

@@ -35,13 +35,14 @@ pub const SKIPPED: u8 = 63;
 
 pub const OUT_TOO_SMALL: u8 = 64;
 
-// The octets that are escaped: two, which stand there twice.
+// The octets that are escaped: the two, and no others.
 pub fn escapes() -> Escapes
     ensures { λ r. ⌜ r ≡ escapes ⌝ }
 {
     Escapes {
         flag: FLAG,
         escape: ESCAPE,
+        others: false,
         third: FLAG,
         fourth: ESCAPE,
         behind_flag: ESCAPED_FLAG,

@@ -49,14 +49,14 @@ lawful true level = told-lawful kissRules.rules entryOfKiss typeSize entryLength
 lawful false level = told-lawful (qaftRules.rules level) entryOfQaft 0 entryLength (qaftLaws.lawful level) (λ p. refl) qaft-length
 
 -- the rule of the shared loop
-pub rule-rules : (kiss : Bool) (level : ℕ) → rulesOf (ruleOf kiss) ≡ closing (sourceRules kiss level)
+pub rule-rules : (kiss : Bool) (level : ℕ) → rulesOf (ruleOf kiss level) ≡ closing (sourceRules kiss level)
 rule-rules true level = kissReader.rule-rules ∙ told-closing kissRules.rules entryOfKiss typeSize entryLength
 rule-rules false level = qaftReader.rule-rules level ∙ told-closing (qaftRules.rules level) entryOfQaft 0 entryLength
 
 -- both framings store as many octets of a segment
-pub cap-is : (kiss : Bool) → ruleOf kiss .cap ≡ maxSegment
-cap-is true = refl
-cap-is false = refl
+pub cap-is : (kiss : Bool) (level : ℕ) → ruleOf kiss level .cap ≡ maxSegment
+cap-is true level = refl
+cap-is false level = refl
 
 -- an entry that is no frame shows none
 pub no-frame : (p : Entry) → OneOf (1 ∷ 2 ∷ 3 ∷ 4 ∷ 5 ∷ 6 ∷ []) (tagOf entries.the-type p) → 0 ≡ entryLength p

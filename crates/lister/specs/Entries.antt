@@ -64,8 +64,8 @@ abbrev pub sourceRules : (kiss : Bool) (level : ℕ) → Rules ℕ Entry
 sourceRules kiss level = cond kiss (told kissRules.rules entryOfKiss typeSize entryLength) (told (qaftRules.rules level) entryOfQaft 0 entryLength)
 
 -- the same as the rule of the shared loop
-abbrev pub ruleOf : (kiss : Bool) → Rule
-ruleOf kiss = cond kiss kissReader.rule qaftReader.rule
+abbrev pub ruleOf : (kiss : Bool) (level : ℕ) → Rule
+ruleOf kiss level = cond kiss kissReader.rule (qaftReader.rule level)
 
 -- the entry of the segment that a flag found in the state s
 abbrev pub entryOf : (kiss : Bool) (level : ℕ) → State → Entry

@@ -156,7 +156,7 @@ fn put_lines(l: Lister, chunk: &[u8], buffer: &mut [u8], out: &mut [u8]) -> Prog
     ensures { λ _. ⌜ now (out .exit) ≡ gathered l (now (chunk .entry)) (now (buffer .entry)) (now (out .entry)) .made .out ⌝ }
 {
     let last = out.len() - listing::MAX_LINE;
-    let rule = source_rule(l.kiss);
+    let rule = source_rule(l.kiss, l.level);
     let mut state = l.state;
     let mut n = l.reports;
     let mut i = 0;
@@ -188,13 +188,13 @@ fn put_lines(l: Lister, chunk: &[u8], buffer: &mut [u8], out: &mut [u8]) -> Prog
 }
 
 // How the shared loop is to read the capture.
-fn source_rule(kiss: bool) -> Rule
-    ensures { λ r. ⌜ r ≡ ruleOf kiss ⌝ }
+fn source_rule(kiss: bool, level: u8) -> Rule
+    ensures { λ r. ⌜ r ≡ ruleOf kiss level ⌝ }
 {
     if kiss {
         return kiss_read::rule();
     }
-    qaft_read::rule()
+    qaft_read::rule(level)
 }
 
 // The octet that cuts it.

@@ -2,7 +2,7 @@
 // and the check octet. Definitions: specs/Escape, specs/Check; a frame and a line of frames: specs/Frame.
 ghost use mathlib.Core.Path.{_≡_};
 ghost use Prim.Native.Nat.{_-_, _%_};
-ghost use Rattle.qaft.specs.Escape.{withOthers, escapesOf};
+ghost use Rattle.qaft.specs.Escape.{escapesOf};
 ghost use Rattle.qaft.specs.Check.{checkOctet};
 use escapes::Escapes;
 
@@ -58,25 +58,16 @@ pub const USED_UP: u8 = 15;
 pub fn escapes(level: u8) -> Escapes
     ensures { λ r. ⌜ r ≡ escapesOf level ⌝ }
 {
-    if level == 1 {
-        return with_others(XON, XOFF);
-    }
-    with_others(FLAG, ESCAPE)
-}
-
-// The flag, the escape and two others.
-fn with_others(third: u8, fourth: u8) -> Escapes
-    ensures { λ r. ⌜ r ≡ withOthers third fourth ⌝ }
-{
     Escapes {
         flag: FLAG,
         escape: ESCAPE,
-        third,
-        fourth,
+        others: level == 1,
+        third: XON,
+        fourth: XOFF,
         behind_flag: FLAG ^ MASK,
         behind_escape: ESCAPE ^ MASK,
-        behind_third: third ^ MASK,
-        behind_fourth: fourth ^ MASK,
+        behind_third: XON ^ MASK,
+        behind_fourth: XOFF ^ MASK,
     }
 }
 

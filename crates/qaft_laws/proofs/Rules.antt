@@ -20,7 +20,7 @@ use Rattle.framing.specs.Writing.{Undoes}
 use Rattle.octets.proofs.Summing.{running-from}
 use Rattle.octets.specs.Sum.{sum}
 use Rattle.qaft.proofs.Check.{sum-checked}
-use Rattle.qaft.proofs.Escape.{plain-octet, escaped-octet}
+use Rattle.qaft.proofs.Escape.{plain-octet, flow-control-no-flag, escape-no-flow-control, escaped-octet}
 use Rattle.qaft.specs.Check.{checkOctet}
 use Rattle.qaft.specs.Escape.{writing}
 use Rattle.qaft.specs.Frame.{sealed, Writable}
@@ -62,16 +62,16 @@ verdict-shows d b n s =
 
 module _ (level : ℕ) where
   pub lawful : Lawful (rules level)
-  lawful = record { shows-stored = verdict-shows; skips-no-flag = λ x e. cc; blank-isBlank = refl }
+  lawful = record { shows-stored = verdict-shows; skips-no-flag = flow-control-no-flag level; blank-isBlank = refl }
 
   pub undoes : Undoes (rules level) (writing level)
   undoes = record {
     flag-is = refl;
     escape-is = refl;
-    escape-kept = (refl, refl);
-    plain = λ x e. (plain-octet level x e .0, plain-octet level x e .1, refl);
-    partner-kept = λ x e. (escaped-octet level x e .0, refl);
-    pair = λ x e. (escaped-octet level x e .1, refl);
+    escape-kept = (refl, escape-no-flow-control level);
+    plain = plain-octet level;
+    partner-kept = λ x e. (escaped-octet level x e .0, escaped-octet level x e .1);
+    pair = λ x e. (escaped-octet level x e .2, refl);
   }
 
   -- ---- data with their check octet are a frame

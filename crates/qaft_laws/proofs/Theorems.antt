@@ -4,21 +4,25 @@
 -- gets who hands over the chunks xss, from the state r on, with the buffer m, and hands on the rest of a chunk after each report.
 use Prim.Native.Nat.{ℕ, _≤_}
 use mathlib.Core.Bool.{Bool, true, false}
-use mathlib.Core.List.{List, [], _∷_, map, flatten}
+use mathlib.Core.List.{List, [], _∷_, _++_, map, flatten, append-nil}
 use mathlib.Core.Logic.{⊎-elim}
-use mathlib.Core.Path.{_≡_, refl, sym, ap, ap₂, _∙_}
+use mathlib.Core.Path.{_≡_, refl, sym, ap, ap₂, subst, _∙_}
 use lib.Dec.{ltb}
 use lib.ListN.{length}
 use lib.Seq.{sets}
+use Rattle.common.proofs.Each.{Each}
 use Rattle.common.proofs.Refusals.{guarded-map}
 use Rattle.common.specs.Refusals.{guarded}
+use Rattle.framing.proofs.Skipped.{reportsOf-skipping}
 use Rattle.framing.proofs.Stored.{scan-stored}
+use Rattle.framing.proofs.Strewn.{strewn-between, strewn-unskipped, unskipped-strewn}
 use Rattle.framing.proofs.Theorems as framing
 use Rattle.framing.proofs.Written.{reportsOf-frames}
-use Rattle.framing.specs.Reports.{reportsOf, shownReports}
+use Rattle.framing.specs.Reports.{unskipped, reportsOf, shownReports}
 use Rattle.framing.specs.Step.{step}
 use Rattle.framing.specs.Step as steps
 use Rattle.framing.specs.Stored.{undoneIn}
+use Rattle.framing.specs.Strewn.{Strewn}
 use Rattle.line.proofs.Chunks.{scan-good, readChunks-idle}
 use Rattle.line.proofs.Scan.{apart, scan-apart}
 use Rattle.line.proofs.Simulation.{scan-simulates}
@@ -26,7 +30,7 @@ use Rattle.line.proofs.Trace.{onwards, trace-scan}
 use Rattle.line.specs.Scan.{Scan}
 use Rattle.line.specs.Trace.{Trace, trace, noEvent, readChunks}
 use Rattle.qaft.specs.Answers.{badLevel, bufferTooSmall, badState}
-use Rattle.qaft.specs.Escape.{writing}
+use Rattle.qaft.specs.Escape.{isFlowControl, writing}
 use Rattle.qaft.specs.Frame.{sealed, line}
 use Rattle.qaft.specs.Limits.{maxLevel, maxSegment}
 use Rattle.qaft_laws.proofs.Reader.{fit-view, action-keeps, readScan-scan, calls, fit-or-refused}
@@ -121,3 +125,39 @@ answers-by-state-alone r xs m n e =
     guarded-map (λ (k : Call). k .answer) (refusals r (length m)) (refusal r m) (scanCall r xs m)
     ∙ ap₂ (λ (k : ℕ) (a : Answer). guarded (refusals r k) (λ n. record { outcome = Refused n; taken = 0; reader = r }) a) e (ap given (scan-apart action xs r m n))
     ∙ sym (guarded-map (λ (k : Call). k .answer) (refusals r (length n)) (refusal r n) (scanCall r xs n))
+
+-- 7. Demand 2's sentence of 2026-02, "putting such octets anywhere into a level 1 line changes no report": l′ is l with raw 11 and 13 put in, anywhere
+-- and as often as one likes. However either is cut, a caller gets the same reports, each with the same buffer and so the same data, the same last
+-- state and the same last buffer; from every state of level 1 and with every buffer, refused ones too.
+pub flow-control-changes-nothing : (l l′ : List ℕ) → Strewn (isFlowControl 1) l l′ → (xss yss : List (List ℕ)) → flatten xss ≡ l → flatten yss ≡ l′
+    → (r : Reader) → r .level ≡ 1 → (m : List ℕ) → readChunks readScan r xss m ≡ readChunks readScan r yss m
+flow-control-changes-nothing l l′ s xss yss e e′ r level m =
+    let here : Strewn (isFlowControl (r .level)) l l′ = subst (λ (n : ℕ). Strewn (isFlowControl n) l l′) (sym level) s in
+    let same : unskipped (rules (r .level)) (flatten xss) ≡ unskipped (rules (r .level)) (flatten yss) =
+    ap (unskipped (rules (r .level))) e ∙ sym (strewn-unskipped (rules (r .level)) here) ∙ ap (unskipped (rules (r .level))) (sym e′) in
+    let n = r .level in
+    ⊎-elim
+    (λ h. framing.skipped-octets-change-nothing (rules n) (lawful n) (place n) action (commutes n) readScan (calls n (h .level)) xss yss same (view r) m (fit-view r m h))
+    (λ f. readChunks-idle readScan r m f xss ∙ sym (readChunks-idle readScan r m f yss))
+    (fit-or-refused r m)
+
+-- what the two lines report is the same
+pub flow-control-changes-no-report : (l l′ : List ℕ) → Strewn (isFlowControl 1) l l′ → reportsOf (rules 1) l′ ≡ reportsOf (rules 1) l
+flow-control-changes-no-report l l′ s = reportsOf-skipping (rules 1) (lawful 1) l′ l (strewn-unskipped (rules 1) s)
+
+-- frames written at level 1 come back, exactly and in order, from their line with such octets put in, however that is cut
+pub written-then-read-with-flow-control : (cs : List Lent) → AllDone (writeFrame 1) false cs → (l′ : List ℕ) → Strewn (isFlowControl 1) (sent (writeFrame 1) false cs) l′
+    → (m : List ℕ) → maxSegment ≤ length m → (xss : List (List ℕ)) → flatten xss ≡ l′
+    → shownReports (rules 1) (readChunks readScan (fresh 1) xss m .events) ≡ map framed (octetsOf cs)
+unfolding flatten
+written-then-read-with-flow-control cs ok l′ s m fits xss e =
+    let whole = append-nil (sent (writeFrame 1) false cs) in
+    ap (λ (t : Trace Reader Report). shownReports (rules 1) (t .events)) (sym (flow-control-changes-nothing _ l′ s (sent (writeFrame 1) false cs ∷ []) xss whole e (fresh 1) refl m))
+    ∙ written-then-read 1 cs ok m fits (sent (writeFrame 1) false cs ∷ []) whole
+
+-- such lines: octets of flow control between any two parts of a line, and every line, which is one without them in which they were put
+pub flow-control-anywhere : (xs fs ys : List ℕ) → Each (λ (x : ℕ). isFlowControl 1 x ≡ true) fs → Strewn (isFlowControl 1) (xs ++ ys) (xs ++ (fs ++ ys))
+flow-control-anywhere = strewn-between (isFlowControl 1)
+
+pub flow-control-taken-out : (l : List ℕ) → Strewn (isFlowControl 1) (unskipped (rules 1) l) l
+flow-control-taken-out = unskipped-strewn (rules 1)

@@ -44,9 +44,9 @@ module _ (level : ℕ) where
 
 -- ---- a call: u and m′ are what the loop gave back, and the buffer after it
 module _ (r : Reader) (xs m : List ℕ) (room : maxSegment ≤ length m) (u : Scanned) (m′ : List ℕ)
-    (e : u ≡ scanned rule (stateOf r) xs m .answer) (f : m′ ≡ scanned rule (stateOf r) xs m .buffer) where
-  judged-is : scan action r xs m ≡ judged rule (stateOf r) xs m room u m′ e f (rules (r .level)) (rule-rules (r .level)) (place (r .level)) action (commutes (r .level)) u m′
-  judged-is = scan-judged rule (stateOf r) xs m room u m′ e f (rules (r .level)) (rule-rules (r .level)) (place (r .level)) action (commutes (r .level))
+    (e : u ≡ scanned (rule (r .level)) (stateOf r) xs m .answer) (f : m′ ≡ scanned (rule (r .level)) (stateOf r) xs m .buffer) where
+  judged-is : scan action r xs m ≡ judged (rule (r .level)) (stateOf r) xs m room u m′ e f (rules (r .level)) (rule-rules (r .level)) (place (r .level)) action (commutes (r .level)) u m′
+  judged-is = scan-judged (rule (r .level)) (stateOf r) xs m room u m′ e f (rules (r .level)) (rule-rules (r .level)) (place (r .level)) action (commutes (r .level))
 
   pub buffer-is : m′ ≡ scanCall r xs m .buffer
   unfolding scanCall callOf
@@ -64,7 +64,7 @@ module _ (r : Reader) (xs m : List ℕ) (room : maxSegment ≤ length m) (u : Sc
   -- the check of the state that is given back for the next call is a sum modulo 256
   pub sum-small : r .sum < 256 → verdictOf (u .closed) (u .state) ≡ Open → u .state .check < 256
   sum-small h v =
-      check-kept rule (stateOf r) xs m room u m′ e f (λ (a : ℕ). a < 256) (λ _. Unit {0}) (omega arith) (λ _ _. tt) (λ n a x _ _. omega (arith, sum-added n a x))
+      check-kept (rule (r .level)) (stateOf r) xs m room u m′ e f (λ (a : ℕ). a < 256) (λ _. Unit {0}) (omega arith) (λ _ _. tt) (λ n a x _ _. omega (arith, sum-added n a x))
       (each-all (λ _. Unit {0}) (λ _. tt) xs) h (open-not-closed v)
 
   pub scan-open : verdictOf (u .closed) (u .state) ≡ Open → record { outcome = UsedUp; taken = u .taken; reader = readerAt (r .level) (u .state) } ≡ scanCall r xs m .answer

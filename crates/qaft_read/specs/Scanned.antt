@@ -12,9 +12,10 @@ use Rattle.qaft_read.specs.declared.Verdict.{Verdict}
 use Rattle.qaft_read.specs.declared.Verdict.the-variants.{Open, Closed}
 use Rattle.qaft_rules.specs.Rules.{verdict}
 
--- flag and escape alone have a meaning, at both levels; every pair is good, and stands for its octet xor 20
-abbrev pub rule : Rule
-rule = record { escapes = escapesOf 0; mask = mask; strict = false; cap = maxSegment; check = sumCheck }
+-- the octets that the level escapes have a meaning where they stand raw: flag, escape, and at level 1 flow control; every pair is good, and stands
+-- for its octet xor 20
+abbrev pub rule : (level : ℕ) → Rule
+rule level = record { escapes = escapesOf level; mask = mask; strict = false; cap = maxSegment; check = sumCheck }
 
 abbrev pub stateOf : Reader → State
 stateOf r = record { synced = r .synced; pending = r .pending; bad = false; count = r .count; check = r .sum }

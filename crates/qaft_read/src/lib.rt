@@ -108,7 +108,7 @@ impl Reader {
         ensures { λ r. ⌜ r ≡ scanCall self (now (chunk .entry)) (now (buffer .entry)) .answer ⌝ }
         ensures { λ _. ⌜ now (buffer .exit) ≡ scanCall self (now (chunk .entry)) (now (buffer .entry)) .buffer ⌝ }
     {
-        let scanned = deframer::scan(rule(), self.state(), chunk, buffer);
+        let scanned = deframer::scan(rule(self.level), self.state(), chunk, buffer);
         let s = scanned.state;
         let Verdict::Closed(report) = judge(scanned.closed, s) else {
             return Answer {
@@ -165,12 +165,13 @@ impl Reader {
     }
 }
 
-// How the deframer is to read: flag and escape alone have a meaning, at both levels.
-pub fn rule() -> Rule
-    ensures { λ r. ⌜ r ≡ rule ⌝ }
+// How the deframer is to read at a level: raw octets that the level escapes are its flag, its escape, and flow control, which is
+// skipped.
+pub fn rule(level: u8) -> Rule
+    ensures { λ r. ⌜ r ≡ rule level ⌝ }
 {
     Rule {
-        escapes: qaft::escapes(0),
+        escapes: qaft::escapes(level),
         mask: qaft::MASK,
         strict: false,
         cap: qaft::MAX_SEGMENT as u16,

@@ -11,7 +11,7 @@ use lib.Dec.{ltb, eqb}
 use lib.ListN.{length}
 use Rattle.framing.specs.Reports.{Reported}
 use Rattle.framing.specs.Rules.{Rules}
-use Rattle.qaft.specs.Escape.{flag, escapeOctet, masked}
+use Rattle.qaft.specs.Escape.{flag, escapeOctet, masked, isFlowControl}
 use Rattle.qaft.specs.Limits.{checkSize, minSegment, maxSegment}
 use Rattle.qaft_report.specs.Answer.{reportLength}
 use Rattle.qaft_report.specs.declared.Report.{Report}
@@ -27,13 +27,14 @@ verdict dangling bad n sum =
     (cond (eqb sum 0) (Frame (n - checkSize))
     BadCheck)))
 
--- "a raw 11 or 13 is data at both levels": no octet is skipped; "7D and the next octet x stand for x xor 20, for every x": no pair is bad; the count
--- goes up to 2,561 octets, "2,562 stands for all above"; the running check is "their sum modulo 256"; a frame's data stand at the buffer's front
+-- "at level 1 a raw 11 or 13 is flow control. It is skipped everywhere, also between 7D and its partner" (2026-02, in place of 01's "a raw 11 or 13
+-- is data at both levels"; at level 0 it is data); "7D and the next octet x stand for x xor 20, for every x": no pair is bad; the count goes up to
+-- 2,561 octets, "2,562 stands for all above"; the running check is "their sum modulo 256"; a frame's data stand at the buffer's front
 abbrev pub rules : (level : ℕ) → Rules ℕ Report
 rules level = record {
   flag = flag;
   escape = escapeOctet;
-  skips = λ x. false;
+  skips = isFlowControl level;
   partner = masked;
   badPair = λ y. false;
   cap = maxSegment;

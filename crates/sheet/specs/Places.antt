@@ -15,31 +15,35 @@ inSegmentsAt = 2
 abbrev pub afterAt : ℕ
 afterAt = 3
 
+-- "a fifth octet count, for skipped octets between two flags", "printed after the four"
+abbrev pub skippedAt : ℕ
+skippedAt = 4
+
 -- "reports of each kind": 10 to 14, and the place behind them
 abbrev pub framesAt : ℕ
-framesAt = 4
+framesAt = 5
 
 abbrev pub abortedAt : ℕ
-abortedAt = 5
+abortedAt = 6
 
 abbrev pub longAt : ℕ
-longAt = 6
+longAt = 7
 
 abbrev pub shortAt : ℕ
-shortAt = 7
+shortAt = 8
 
 abbrev pub badChecksAt : ℕ
-badChecksAt = 8
+badChecksAt = 9
 
 abbrev pub reportsEnd : ℕ
 reportsEnd = badChecksAt + 1
 
 -- "DATA, DACK and repeats"
 abbrev pub dataAt : ℕ
-dataAt = 9
+dataAt = 10
 
 abbrev pub dackAt : ℕ
-dackAt = 10
+dackAt = 11
 
 abbrev pub repeatsAt : ℕ
-repeatsAt = 11
+repeatsAt = 12

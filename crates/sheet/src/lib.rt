@@ -7,8 +7,8 @@ ghost use Rattle.sheet.specs.Tallies.{freshTally};
 pub const LINES: usize = 64;
 
 // Counts of a line, in the order in which they are printed: octets before the first flag, flags, octets in reported segments, octets
-// after the last flag; reports 10 to 14; DATA, DACK, repeats.
-pub const COUNTS: usize = 12;
+// after the last flag, skipped octets between two flags; reports 10 to 14; DATA, DACK, repeats.
+pub const COUNTS: usize = 13;
 
 pub const BEFORE: usize = 0;
 
@@ -18,21 +18,23 @@ pub const IN_SEGMENTS: usize = 2;
 
 pub const AFTER: usize = 3;
 
-pub const FRAMES: usize = 4;
+pub const SKIPPED: usize = 4;
 
-pub const ABORTED: usize = 5;
+pub const FRAMES: usize = 5;
 
-pub const LONG: usize = 6;
+pub const ABORTED: usize = 6;
 
-pub const SHORT: usize = 7;
+pub const LONG: usize = 7;
 
-pub const BAD_CHECKS: usize = 8;
+pub const SHORT: usize = 8;
 
-pub const DATA: usize = 9;
+pub const BAD_CHECKS: usize = 9;
 
-pub const DACK: usize = 10;
+pub const DATA: usize = 10;
 
-pub const REPEATS: usize = 11;
+pub const DACK: usize = 11;
+
+pub const REPEATS: usize = 12;
 
 // The largest count of a line, of 32 bits; what a capture adds is counted up to one more, which is already too large for every line.
 pub const MAX_COUNT: u64 = 4294967295;

@@ -7,18 +7,16 @@ use native.Mathlib.Nat.{zero-add}
 use borrow.Author.Tests.{lt-ltb, le-ltb}
 use lib.Dec.{leb}
 use lib.ListN.{length, take}
-use Rattle.capture.specs.Octets.{countAll}
-use Rattle.capture.specs.declared.Octets.{Octets}
 use Rattle.framing.specs.Reports.{shown}
 use Rattle.qaft.specs.Answers.{done, bufferTooSmall, badLevel}
-use Rattle.qaft.specs.Escape.{flag}
 use Rattle.qaft.specs.Limits.{maxLevel, maxSegment}
 use Rattle.qaft_report.specs.Answer.{shown as frontShown}
-use Rattle.sheet.specs.Limits.{tooLarge}
 use Rattle.sheet_counter.specs.Count.{gathered, progressOf, later, Call, callOf, refusal, refusals, count}
 use Rattle.sheet_counter.specs.declared.Counted.{Counted}
 use Rattle.sheet_counter.specs.declared.Counter.{Counter}
 use Rattle.sheet_counter.specs.declared.Progress.{Progress}
+use Rattle.sheet_octets.specs.Raw.{rawAll}
+use Rattle.sheet_octets.specs.declared.RawOctets.{RawOctets}
 
 -- a frame's octets stand at the front of the buffer
 pub shown-front : (m : List ℕ) (n : ℕ) → frontShown m n ≡ shown m 0 n
@@ -45,14 +43,14 @@ module _ (c : Counter) (xs m : List ℕ) where
 
     -- as the code goes: p is what the loop came to, o the octets with those of the chunk; b: the buffer after it
     module _ (k : maxSegment ≤ length m) (p : Progress) (b : List ℕ) (pe : p ≡ progressOf (gathered c xs m)) (be : b ≡ gathered c xs m .buffer)
-        (o : Octets) (oe : o ≡ countAll tooLarge flag (c .octets) xs) where
+        (o : RawOctets) (oe : o ≡ rawAll (c .level) (c .octets) xs) where
       abbrev made : Counted
       made = record { number = done; counter = record { level = c .level; state = p .state; octets = o; found = p .found } }
 
       made-is : made ≡ callOf c xs (gathered c xs m) .answer
       unfolding callOf
       made-is =
-          ap (λ (o : Octets). record { number = done; counter = record { level = c .level; state = p .state; octets = o; found = p .found } }) oe
+          ap (λ (o : RawOctets). record { number = done; counter = record { level = c .level; state = p .state; octets = o; found = p .found } }) oe
           ∙ ap (λ (p : Progress). record { number = done; counter = later c p xs }) pe
 
       pub count-made : (made ≡ count c xs m .answer) × (b ≡ count c xs m .buffer)

@@ -8,8 +8,8 @@ use mathlib.Core.Bool.{Bool, true, false}
 use mathlib.Core.List.{List, [], _∷_}
 use lib.Dec.{ltb}
 use lib.ListN.{length}
-use Rattle.capture.specs.Octets.{freshOctets, countAll}
 use Rattle.common.specs.Refusals.{Refusal, guarded}
+use Rattle.counter.specs.Counted.{counted}
 use Rattle.deframer.specs.Scan.{view, place}
 use Rattle.deframer.specs.declared.State as declared
 use Rattle.framing.specs.Reports.{reported}
@@ -17,7 +17,6 @@ use Rattle.framing.specs.Rules.{State}
 use Rattle.framing.specs.Step.{step}
 use Rattle.line.specs.Gather.{Gathered, gatherAll}
 use Rattle.qaft.specs.Answers.{done, bufferTooSmall, badLevel}
-use Rattle.qaft.specs.Escape.{flag}
 use Rattle.qaft.specs.Limits.{maxLevel, maxSegment}
 use Rattle.qaft_report.specs.declared.Report.{Report}
 use Rattle.qaft_rules.specs.Rules.{rules}
@@ -28,13 +27,14 @@ use Rattle.sheet_counter.specs.declared.Counter.{Counter}
 use Rattle.sheet_counter.specs.declared.Progress.{Progress}
 use Rattle.sheet_found.specs.Found.{freshFound, foundWith}
 use Rattle.sheet_found.specs.declared.Found.{Found}
+use Rattle.sheet_octets.specs.Raw.{freshRaw, rawAll}
 
 -- the state of reading before any flag, and nothing counted yet
 abbrev pub fresh : declared.State
 fresh = record { synced = false; pending = false; bad = false; count = 0; check = 0 }
 
 abbrev pub freshCounter : (level : ℕ) → Counter
-freshCounter level = record { level = level; state = fresh; octets = freshOctets; found = freshFound }
+freshCounter level = record { level = level; state = fresh; octets = freshRaw; found = freshFound }
 
 -- with a report whose octets stand in the buffer m, the same at both levels
 abbrev pub withReport : Found → Report → (m : List ℕ) → Found
@@ -61,7 +61,7 @@ pub record Call : Type 0 where
 
 -- the counter behind the chunk xs
 abbrev pub later : Counter → Progress → (xs : List ℕ) → Counter
-later c p xs = record { level = c .level; state = p .state; octets = countAll tooLarge flag (c .octets) xs; found = p .found }
+later c p xs = record { level = c .level; state = p .state; octets = rawAll (c .level) (c .octets) xs; found = p .found }
 
 unfoldable pub callOf : Counter → (xs : List ℕ) → Gathered (State ℕ) Found → Call
 callOf c xs g = record { answer = record { number = done; counter = later c (progressOf g) xs }; buffer = g .buffer }
@@ -76,12 +76,16 @@ refusals c room = (ltb maxLevel (c .level), badLevel) ∷ (ltb room maxSegment, 
 unfoldable pub count : Counter → (xs m : List ℕ) → Call
 count c xs m = guarded (refusals c (length m)) (refusal c m) (callOf c xs (gathered c xs m))
 
--- in the order in which they are printed
-abbrev pub countsIn : Counter → Counts
-countsIn c = let o = c .octets in let f = c .found in record {
+-- in the order in which they are printed, with so many octets before the first flag and after the last
+abbrev pub countsWith : Counter → (before after : ℕ) → Counts
+countsWith c before after = let k = c .octets .kept in let f = c .found in record {
   number = done;
   counts =
-      o .before ∷ o .flags ∷ o .between ∷ o .after
+      before ∷ k .flags ∷ k .between ∷ after ∷ c .octets .skipped .between
       ∷ f .frames ∷ f .aborted ∷ f .long ∷ f .short ∷ f .«bad_checks»
       ∷ f .«data_packets» ∷ f .«dack_packets» ∷ f .repeats ∷ [];
 }
+
+-- "before and after still count every octet"
+abbrev pub countsIn : Counter → Counts
+countsIn c = let k = c .octets .kept in let s = c .octets .skipped in countsWith c (counted tooLarge (k .before) (s .before)) (counted tooLarge (k .after) (s .after))

@@ -10,12 +10,13 @@ use deframer::State;
 use qaft_report::Report;
 use sheet::Counts;
 use sheet_found::Found;
+use sheet_octets::RawOctets;
 
 // What goes from chunk to chunk: the level, the state of reading, octets, reports and packets.
 pub struct Counter {
     pub level: u8,
     pub state: State,
-    pub octets: Octets,
+    pub octets: RawOctets,
     pub found: Found,
 }
 
@@ -45,7 +46,10 @@ impl Counter {
                 count: 0,
                 check: 0,
             },
-            octets: Octets::new(),
+            octets: RawOctets {
+                kept: Octets::new(),
+                skipped: Octets::new(),
+            },
             found: Found::new(),
         }
     }
@@ -71,25 +75,28 @@ impl Counter {
             counter: Counter {
                 level: self.level,
                 state,
-                octets: octets.add(qaft::FLAG, sheet::TOO_LARGE, chunk),
+                octets: octets.add(self.level, chunk),
                 found,
             },
         }
     }
 
-    // What the chunks so far add to a line.
+    // What the chunks so far add to a line. Before the first flag and after the last every octet counts.
     pub fn counts(self) -> Counts
         ensures { λ r. ⌜ r ≡ countsIn self ⌝ }
     {
-        let o = self.octets;
+        let octets = self.octets;
+        let kept = octets.kept;
+        let skipped = octets.skipped;
         let f = self.found;
         Counts {
             number: qaft::DONE,
             counts: [
-                o.before,
-                o.flags,
-                o.between,
-                o.after,
+                counter::add(sheet::TOO_LARGE, kept.before, skipped.before),
+                kept.flags,
+                kept.between,
+                counter::add(sheet::TOO_LARGE, kept.after, skipped.after),
+                skipped.between,
                 f.frames,
                 f.aborted,
                 f.long,
@@ -119,7 +126,7 @@ fn count_reports(c: Counter, chunk: &[u8], buffer: &mut [u8]) -> Progress
     ensures { λ r. ⌜ r ≡ progressOf (gathered c (now (chunk .entry)) (now (buffer .entry))) ⌝ }
     ensures { λ _. ⌜ now (buffer .exit) ≡ gathered c (now (chunk .entry)) (now (buffer .entry)) .buffer ⌝ }
 {
-    let rule = qaft_read::rule();
+    let rule = qaft_read::rule(c.level);
     let mut state = c.state;
     let mut found = c.found;
     let mut i = 0;

@@ -1,3 +1,4 @@
 pub mod Found
+pub mod Raw
 pub mod Chunks
 pub mod Theorems

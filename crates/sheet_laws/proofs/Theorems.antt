@@ -3,10 +3,6 @@ use Prim.Native.Nat.{ℕ, _≤_}
 use mathlib.Core.List.{List, [], _∷_, flatten}
 use mathlib.Core.Path.{_≡_, sym, ap, ap₂, _∙_}
 use lib.ListN.{length}
-use Rattle.capture.proofs.Whole.{wholeOctets, octets-whole}
-use Rattle.capture.specs.Octets.{freshOctets}
-use Rattle.capture.specs.Whole.{before, flags, after}
-use Rattle.capture.specs.declared.Octets.{Octets}
 use Rattle.counter.specs.Counted.{counted}
 use Rattle.framing.proofs.Formed.{Fit, fresh-formed}
 use Rattle.framing.proofs.Meaning.{trace-reports}
@@ -16,7 +12,6 @@ use Rattle.framing.specs.Step.{fresh, step}
 use Rattle.line.specs.Gather.{makeAll}
 use Rattle.line.specs.Trace.{trace}
 use Rattle.qaft.specs.Answers.{done, frame, aborted, long, short, badCheck}
-use Rattle.qaft.specs.Escape.{flag}
 use Rattle.qaft.specs.Limits.{maxLevel, maxSegment}
 use Rattle.qaft_laws.proofs.Rules.{lawful}
 use Rattle.qaft_rules.specs.Rules.{rules}
@@ -27,7 +22,11 @@ use Rattle.sheet_found.specs.Found.{freshFound}
 use Rattle.sheet_found.specs.declared.Found.{Found}
 use Rattle.sheet_laws.proofs.Chunks.{counterAt, chunks-are}
 use Rattle.sheet_laws.proofs.Found.{foundWhole, found-events}
+use Rattle.sheet_laws.proofs.Raw.{wholeRaw, raw-whole, before-whole, after-whole, skipped-whole}
 use Rattle.sheet_laws.specs.Caller.{Counting, countedIn}
+use Rattle.sheet_octets.proofs.Apart.{apart}
+use Rattle.sheet_octets.specs.Raw.{freshRaw}
+use Rattle.sheet_octets.specs.declared.RawOctets.{RawOctets}
 use Rattle.sheet_rules.proofs.Octets.{reported-between}
 use Rattle.sheet_rules.proofs.Repeats.{repeats-from-none}
 use Rattle.sheet_rules.specs.Counts.{countOf, isKind, hasData, hasDack, countsOf, wholeCounts}
@@ -39,20 +38,21 @@ module _ (level : ℕ) (h : level ≤ maxLevel) (m : List ℕ) (room : maxSegmen
   fit = record { room = room; formed = fresh-formed (rules level) (lawful level) }
 
   -- octets and reports of the whole capture, as they are gathered
-  parts-are : (s : State ℕ) (l : List ℕ) (o : Octets) (f : Found) → o ≡ wholeOctets tooLarge flag l → f ≡ foundWhole freshFound (reportsOf (rules level) l)
+  parts-are : (s : State ℕ) (l : List ℕ) (o : RawOctets) (f : Found) → o ≡ wholeRaw level l → f ≡ foundWhole freshFound (reportsOf (rules level) l)
       → countsIn (counterAt level h s o f) ≡ wholeCounts level l
   unfolding countsOf
   parts-are s l o f oe fe =
       let rs = reportsOf (rules level) l in
       let c = counted tooLarge 0 in
-      ap₂ (λ (o : Octets) (f : Found). countsIn (counterAt level h s o f)) oe fe
+      ap₂ (λ (o : RawOctets) (f : Found). countsIn (counterAt level h s o f)) oe fe
       ∙ (λ i. record {
         number = done;
         counts =
-            c (before flag l)
-            ∷ c (flags flag l)
+            before-whole level l i
+            ∷ c (apart level l .flags-read i)
             ∷ c (sym (reported-between level l) i)
-            ∷ c (after flag l)
+            ∷ after-whole level l i
+            ∷ c (skipped-whole level l i)
             ∷ c (countOf (isKind frame) rs)
             ∷ c (countOf (isKind aborted) rs)
             ∷ c (countOf (isKind long) rs)
@@ -68,8 +68,8 @@ module _ (level : ℕ) (h : level ≤ maxLevel) (m : List ℕ) (room : maxSegmen
   whole xss =
       let l = flatten xss in
       let a = trace (step (rules level)) (fresh (rules level)) l m in
-      ap (λ (k : Counting). countsIn (k .counter)) (chunks-are level h xss (fresh (rules level)) freshOctets freshFound m fit)
-      ∙ parts-are (a .state) l _ (makeAll withReport freshFound (a .events)) (octets-whole tooLarge flag l)
+      ap (λ (k : Counting). countsIn (k .counter)) (chunks-are level h xss (fresh (rules level)) freshRaw freshFound m fit)
+      ∙ parts-are (a .state) l _ (makeAll withReport freshFound (a .events)) (raw-whole level l)
       (found-events level (a .events) freshFound ∙ ap (foundWhole freshFound) (trace-reports (rules level) (lawful level) l m room))
 
   -- 2. However a capture is cut into chunks, what is counted is what the definition says of the whole capture: with a level of 0 or 1 and a reader's

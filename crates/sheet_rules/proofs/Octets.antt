@@ -1,19 +1,21 @@
--- Octets in reported segments are those between two flags: QAFT skips none, so that every segment but an empty one is reported whole. Assumes nothing.
+-- Octets between two flags: those in reported segments, which are all that are not skipped, and the skipped ones. Assumes nothing.
 use Prim.Native.Nat.{ℕ, suc, _+_}
 use mathlib.Core.Bool.{Bool, true, false, cond}
-use mathlib.Core.List.{List, [], _∷_}
+use mathlib.Core.List.{List, [], _∷_, map}
 use mathlib.Core.Path.{_≡_, refl, sym, ap, ap₂, _∙_}
 use native.Mathlib.Omega.{arith}
 use lib.Dec.{eqb}
 use lib.ListN.{length}
 use Rattle.capture.specs.Whole.{closed, between}
 use Rattle.framing.proofs.PlainReading.{segments-first}
+use Rattle.framing.proofs.Segments.{segments-unskipped, afterFlag-unskipped}
 use Rattle.framing.specs.Flags.{hasFlag}
 use Rattle.framing.specs.Reports.{atFront, afterFlag, segments, unskipped, reportsOfOctets, reportsOfSegment}
 use Rattle.framing.specs.Stored.{upToFlag}
-use Rattle.qaft.specs.Escape.{flag}
+use Rattle.qaft.proofs.Escape.{flow-control-no-flag}
+use Rattle.qaft.specs.Escape.{flag, isFlowControl}
 use Rattle.qaft_rules.specs.Rules.{rules}
-use Rattle.sheet_rules.specs.Counts.{octetsOf, octetsReported}
+use Rattle.sheet_rules.specs.Counts.{octetsOf, octetsReported, skippedOf, octetsSkipped}
 
 -- all octets of segments
 abbrev octetsIn : List (List ℕ) → ℕ
@@ -21,24 +23,32 @@ octetsIn [] = 0
 octetsIn (s ∷ ss) = length s + octetsIn ss
 
 module _ (level : ℕ) where
-  unskipped-all : (s : List ℕ) → unskipped (rules level) s ≡ s
-  unfolding unskipped
-  unskipped-all [] = refl
-  unskipped-all (x ∷ s) = ap (λ (s : List ℕ). x ∷ s) (unskipped-all s)
-
-  octets-all : (s : List ℕ) → octetsOf s (reportsOfOctets (rules level) s) ≡ length s
+  -- a segment with nothing but skipped octets is not reported, and has none to be counted
+  octets-reported : (s t : List ℕ) → unskipped (rules level) s ≡ t → octetsOf level s (reportsOfOctets (rules level) t) ≡ length t
   unfolding reportsOfOctets
-  octets-all [] = refl
-  octets-all (x ∷ s) = refl
+  octets-reported s [] e = refl
+  octets-reported s (x ∷ t) e = omega (arith, ap length e)
 
-  octets-reported : (s : List ℕ) → octetsOf s (reportsOfSegment (rules level) s) ≡ length s
-  unfolding reportsOfSegment
-  octets-reported s = ap (λ (t : List ℕ). octetsOf s (reportsOfOctets (rules level) t)) (unskipped-all s) ∙ octets-all s
-
-  reported-all : (ss : List (List ℕ)) → octetsReported level ss ≡ octetsIn ss
-  unfolding octetsReported
+  reported-all : (ss : List (List ℕ)) → octetsReported level ss ≡ octetsIn (map (unskipped (rules level)) ss)
+  unfolding octetsReported reportsOfSegment
   reported-all [] = refl
-  reported-all (s ∷ ss) = ap₂ (λ (m n : ℕ). m + n) (octets-reported s) (reported-all ss)
+  reported-all (s ∷ ss) = ap₂ (λ (m n : ℕ). m + n) (octets-reported s (unskipped (rules level) s) refl) (reported-all ss)
+
+  -- an octet of a segment is skipped, or it is not
+  skipped-or-not : (s : List ℕ) → skippedOf level s + length (unskipped (rules level) s) ≡ length s
+  unfolding skippedOf unskipped
+  skipped-or-not [] = refl
+  skipped-or-not (x ∷ s) = go (isFlowControl level x) (skipped-or-not s)
+    where
+      go : (b : Bool) → skippedOf level s + length (unskipped (rules level) s) ≡ length s
+          → cond b (suc (skippedOf level s)) (skippedOf level s) + length (cond b (unskipped (rules level) s) (x ∷ unskipped (rules level) s)) ≡ suc (length s)
+      go true ih = omega (arith, ih)
+      go false ih = omega (arith, ih)
+
+  skipped-all : (ss : List (List ℕ)) → octetsSkipped level ss + octetsIn (map (unskipped (rules level)) ss) ≡ octetsIn ss
+  unfolding octetsSkipped
+  skipped-all [] = refl
+  skipped-all (s ∷ ss) = omega (arith, skipped-or-not s, skipped-all ss)
 
   -- an octet before a flag joins a segment; where no flag comes it joins none
   joined : (x : ℕ) (l : List ℕ) (h : Bool) → hasFlag flag l ≡ h → octetsIn (atFront x (segments (rules level) l)) ≡ cond h (suc (octetsIn (segments (rules level) l))) 0
@@ -73,5 +83,31 @@ module _ (level : ℕ) where
       go true ih = segments-closed l
       go false ih = ih
 
-  pub reported-between : (l : List ℕ) → octetsReported level (segments (rules level) (afterFlag (rules level) l)) ≡ between flag l
-  reported-between l = reported-all (segments (rules level) (afterFlag (rules level) l)) ∙ segments-between l
+  -- segments of the capture
+  abbrev segmentsOf : List ℕ → List (List ℕ)
+  segmentsOf l = segments (rules level) (afterFlag (rules level) l)
+
+  segmentsOf-unskipped : (l : List ℕ) → segmentsOf (unskipped (rules level) l) ≡ map (unskipped (rules level)) (segmentsOf l)
+  segmentsOf-unskipped l =
+      ap (segments (rules level)) (afterFlag-unskipped (rules level) (flow-control-no-flag level) l)
+      ∙ segments-unskipped (rules level) (flow-control-no-flag level) (afterFlag (rules level) l)
+
+  -- in reported segments: those between two flags of the capture without skipped octets
+  pub reported-between : (l : List ℕ) → octetsReported level (segments (rules level) (afterFlag (rules level) l)) ≡ between flag (unskipped (rules level) l)
+  reported-between l = reported-all (segmentsOf l) ∙ ap octetsIn (sym (segmentsOf-unskipped l)) ∙ segments-between (unskipped (rules level) l)
+
+  -- with the skipped ones: all between two flags
+  pub skipped-between : (l : List ℕ)
+      → octetsSkipped level (segments (rules level) (afterFlag (rules level) l)) + octetsReported level (segments (rules level) (afterFlag (rules level) l)) ≡ between flag l
+  skipped-between l = omega (arith, reported-all (segmentsOf l), skipped-all (segmentsOf l), segments-between l)
+
+-- at level 0 there are none
+skipped-none-of : (s : List ℕ) → skippedOf 0 s ≡ 0
+unfolding skippedOf isFlowControl
+skipped-none-of [] = refl
+skipped-none-of (x ∷ s) = skipped-none-of s
+
+pub skipped-none : (ss : List (List ℕ)) → octetsSkipped 0 ss ≡ 0
+unfolding octetsSkipped
+skipped-none [] = refl
+skipped-none (s ∷ ss) = ap₂ (λ (m n : ℕ). m + n) (skipped-none-of s) (skipped-none ss)

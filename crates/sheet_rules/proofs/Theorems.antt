@@ -8,17 +8,23 @@ use Rattle.capture.proofs.Flags.{parts-add-up}
 use Rattle.framing.specs.Reports.{afterFlag, segments, reportsOf}
 use Rattle.qaft.specs.Escape.{flag}
 use Rattle.qaft_rules.specs.Rules.{rules}
-use Rattle.sheet.specs.Places.{beforeAt, flagsAt, inSegmentsAt, afterAt, framesAt, dataAt, dackAt, repeatsAt}
-use Rattle.sheet_rules.proofs.Octets.{reported-between}
+use Rattle.sheet.specs.Places.{beforeAt, flagsAt, inSegmentsAt, afterAt, skippedAt, framesAt, dataAt, dackAt, repeatsAt}
+use Rattle.sheet_rules.proofs.Octets.{skipped-between, skipped-none}
 use Rattle.sheet_rules.proofs.Packets.{packets-among}
 use Rattle.sheet_rules.proofs.Repeats.{repeats-are}
 use Rattle.sheet_rules.specs.Counts.{countsOf}
 use Rattle.sheet_rules.specs.Repeats.{dataNumbers, equalsBefore}
 
--- 1. "What a capture adds to the four octet counts adds up to its length."
-pub octet-counts-add-up : (level : ℕ) (l : List ℕ) → let cs = countsOf level l in getD cs beforeAt 0 + (getD cs flagsAt 0 + (getD cs inSegmentsAt 0 + getD cs afterAt 0)) ≡ length l
+-- 1. "What a capture adds to the five octet counts adds up to its length."
+pub octet-counts-add-up : (level : ℕ) (l : List ℕ)
+    → let cs = countsOf level l in getD cs beforeAt 0 + (getD cs flagsAt 0 + (getD cs inSegmentsAt 0 + (getD cs afterAt 0 + getD cs skippedAt 0))) ≡ length l
 unfolding countsOf
-octet-counts-add-up level l = omega (arith, reported-between level l, parts-add-up flag l)
+octet-counts-add-up level l = omega (arith, skipped-between level l, parts-add-up flag l)
+
+-- At level 0 no octet is skipped.
+pub nothing-skipped-at-level-0 : (l : List ℕ) → getD (countsOf 0 l) skippedAt 0 ≡ 0
+unfolding countsOf
+nothing-skipped-at-level-0 l = skipped-none (segments (rules 0) (afterFlag (rules 0) l))
 
 -- 5. Repeats are equal neighbours among the numbers of the capture's DATA packets, whatever was reported between them.
 pub repeats-are-equal-neighbours : (level : ℕ) (l : List ℕ) → getD (countsOf level l) repeatsAt 0 ≡ equalsBefore (dataNumbers (reportsOf (rules level) l))

@@ -1,10 +1,12 @@
 -- The line sheet: what a whole capture adds to its line, as the request counts it, over the capture with no state. Cited by the contracts and by
 -- the theorems. Assumes nothing.
 --
---   countsOf level l       the twelve counts of the capture l, in the order in which they are printed
+--   countsOf level l       the thirteen counts of the capture l, in the order in which they are printed
 --   wholeCounts level l    the same as they are gathered: each stops where it is too large for every line
 --
--- "Octets before the first flag, flags, octets in reported stretches, octets after the last flag, reports of each kind, DATA, DACK and repeats."
+-- "Octets before the first flag, flags, octets in reported stretches, octets after the last flag, reports of each kind, DATA, DACK and repeats"; after
+-- the four octet counts "a fifth octet count, for skipped octets between two flags, in reported stretches and empty ones; the count for reported
+-- stretches no longer has them, and the five add up"; before and after "still count every octet" (2026-02).
 use Prim.Native.Nat.{ℕ, suc, _+_}
 use mathlib.Core.Bool.{Bool, true, false, cond}
 use mathlib.Core.List.{List, [], _∷_, _++_}
@@ -15,23 +17,32 @@ use Rattle.dlc_packet.specs.Numbers.{modulus}
 use Rattle.dlc_packet.specs.Packet.{kindOf}
 use Rattle.dlc_packet.specs.declared.Kind.{Kind}
 use Rattle.dlc_packet.specs.declared.Kind.the-variants.{Invalid, Reset, ResetAck, Data, Dack}
-use Rattle.framing.specs.Reports.{Reported, afterFlag, segments, reportsOfSegment, reportsOf}
+use Rattle.framing.specs.Reports.{Reported, afterFlag, segments, unskipped, reportsOfSegment, reportsOf}
 use Rattle.qaft.specs.Answers.{done, frame, aborted, long, short, badCheck}
-use Rattle.qaft.specs.Escape.{flag}
+use Rattle.qaft.specs.Escape.{flag, isFlowControl}
 use Rattle.qaft_report.specs.Answer.{reportNumber}
 use Rattle.qaft_report.specs.declared.Report.{Report}
 use Rattle.qaft_rules.specs.Rules.{rules}
 use Rattle.sheet.specs.Tallies.{stopped}
 use Rattle.sheet.specs.declared.Counts.{Counts}
 
--- ---- octets: raw octets of the segments that gave a report
-abbrev pub octetsOf : (s : List ℕ) → List (Reported Report) → ℕ
-octetsOf s [] = 0
-octetsOf s (r ∷ rs) = length s
+-- ---- octets: raw octets of the segments that gave a report, without the skipped ones among them
+abbrev pub octetsOf : (level : ℕ) (s : List ℕ) → List (Reported Report) → ℕ
+octetsOf level s [] = 0
+octetsOf level s (r ∷ rs) = length (unskipped (rules level) s)
 
 unfoldable pub octetsReported : (level : ℕ) → List (List ℕ) → ℕ
 octetsReported level [] = 0
-octetsReported level (s ∷ ss) = octetsOf s (reportsOfSegment (rules level) s) + octetsReported level ss
+octetsReported level (s ∷ ss) = octetsOf level s (reportsOfSegment (rules level) s) + octetsReported level ss
+
+-- skipped octets of a segment, and of all segments, reported and empty ones
+unfoldable pub skippedOf : (level : ℕ) → List ℕ → ℕ
+skippedOf level [] = 0
+skippedOf level (x ∷ xs) = cond (isFlowControl level x) (suc (skippedOf level xs)) (skippedOf level xs)
+
+unfoldable pub octetsSkipped : (level : ℕ) → List (List ℕ) → ℕ
+octetsSkipped level [] = 0
+octetsSkipped level (s ∷ ss) = skippedOf level s + octetsSkipped level ss
 
 -- ---- reports: how many have a property
 unfoldable pub countOf : (Reported Report → Bool) → List (Reported Report) → ℕ
@@ -99,10 +110,12 @@ repeatsAfter ps (r ∷ rs) = let n = repeatsAfter (ps ++ (r ∷ [])) rs in cond 
 unfoldable pub countsOf : (level : ℕ) (l : List ℕ) → List ℕ
 countsOf level l =
     let rs = reportsOf (rules level) l in
+    let ss = segments (rules level) (afterFlag (rules level) l) in
     before flag l
     ∷ flags flag l
-    ∷ octetsReported level (segments (rules level) (afterFlag (rules level) l))
+    ∷ octetsReported level ss
     ∷ after flag l
+    ∷ octetsSkipped level ss
     ∷ countOf (isKind frame) rs
     ∷ countOf (isKind aborted) rs
     ∷ countOf (isKind long) rs

@@ -43,7 +43,7 @@ turn : (k : tie.After-scan Inv-loop μ-loop)
     → let l = k .before .before .before .before .loop in
     let a = k .before .before .before .before .before .before .before .before .before .before .before .args in
     let toKiss = a .c .«to_kiss» in
-    Turn (reportText toKiss (a .c .level)) counted maxFrame (ruleOf toKiss) (sourceRules toKiss (a .c .level)) (rule-rules toKiss (a .c .level))
+    Turn (reportText toKiss (a .c .level)) counted maxFrame (ruleOf toKiss (a .c .level)) (sourceRules toKiss (a .c .level)) (rule-rules toKiss (a .c .level))
     (gathered (a .c) (a .chunk .now) (a .buffer .now) (a .out .now)) (l .state) (l .tally) (a .chunk .now) (l .buffer) (l .out) (l .i) (l .at) (k .scan .result) (k .scan .last .1 .1 .1 .0)
 turn k =
     let l = k .before .before .before .before .loop in
@@ -52,7 +52,7 @@ turn k =
     let rest = take (length (a .chunk .now) - l .i) (drop (l .i) (a .chunk .now)) in
     record {
       within = l .inv .0;
-      segment = omega (arith, segment k, cap-is (a .c .«to_kiss»));
+      segment = omega (arith, segment k, cap-is (a .c .«to_kiss») (a .c .level));
       room = room k;
       inv = l .inv .3;
       answer = k .scan .ensures .0 ∙ ap (λ (x : Rule). scanned x (l .state) rest (l .buffer) .answer) r;
@@ -70,7 +70,7 @@ loop-holds c =
     let p = c .before .before .before .before .before .before in
     let toKiss = p .args .c .«to_kiss» in
     let level = p .args .c .level in
-    (omega arith, refl, refl, start-inv (reportText toKiss level) counted maxFrame (ruleOf toKiss) (sourceRules toKiss level) (rule-rules toKiss level) _ _ _ _ _ (p .pre .1))
+    (omega arith, refl, refl, start-inv (reportText toKiss level) counted maxFrame (ruleOf toKiss level) (sourceRules toKiss level) (rule-rules toKiss level) _ _ _ _ _ (p .pre .1))
 
 sub-scan : tie.Need-sub-scan Inv-loop μ-loop
 sub-scan c = search needs
@@ -187,7 +187,7 @@ returns-2 c =
     let p = c .before .before .before .before .before .before .before .before .before in
     let a = p .args in
     let toKiss = a .c .«to_kiss» in
-    let full = turn-full (reportText toKiss (a .c .level)) counted maxFrame (ruleOf toKiss) (sourceRules toKiss (a .c .level)) (rule-rules toKiss (a .c .level)) _ (l .state) _ (l .buffer) (l .tally) (l .out) (l .i) (l .at) (omega (arith, c .before .loop-test .left, l .inv .2, p .pre .1)) (l .inv .3) in
+    let full = turn-full (reportText toKiss (a .c .level)) counted maxFrame (ruleOf toKiss (a .c .level)) (sourceRules toKiss (a .c .level)) (rule-rules toKiss (a .c .level)) _ (l .state) _ (l .buffer) (l .tally) (l .out) (l .i) (l .at) (omega (arith, c .before .loop-test .left, l .inv .2, p .pre .1)) (l .inv .3) in
     let e = answered (a .c) _ (l .state) (l .tally) (l .buffer) (l .out) (l .i) (l .at) _ full (c .later2 .ensures) in
     (e .0, (e .1, e .2))
 

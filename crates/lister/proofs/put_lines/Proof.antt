@@ -26,7 +26,7 @@ Inv-loop l chunk buffer₀ out₀ last rule state₀ n₀ i₀ at₀ buffer out 
     × (length buffer ≡ length buffer₀)
     × (length out ≡ length out₀)
     × (gathered l chunk buffer₀ out₀
-    ≡ later i (onwards (lineOf (l .kiss)) counted maxLine (ruleOf (l .kiss)) (sourceRules (l .kiss) (l .level)) (rule-rules (l .kiss) (l .level)) state (drop i chunk) buffer (record { tally = n; out = out; behind = at })))
+    ≡ later i (onwards (lineOf (l .kiss)) counted maxLine (ruleOf (l .kiss) (l .level)) (sourceRules (l .kiss) (l .level)) (rule-rules (l .kiss) (l .level)) state (drop i chunk) buffer (record { tally = n; out = out; behind = at })))
 
 abbrev μ-loop : tie.MeasureT-loop
 μ-loop l chunk buffer₀ out₀ last rule state₀ n₀ i₀ at₀ buffer out state n i at = length chunk - i
@@ -43,7 +43,7 @@ turn : (k : tie.After-scan Inv-loop μ-loop)
     → let t = k .before .before .before .before .loop in
     let a = k .before .before .before .before .before .before .before .before .before .before .args in
     let kiss = a .l .kiss in
-    Turn (lineOf kiss) counted maxLine (ruleOf kiss) (sourceRules kiss (a .l .level)) (rule-rules kiss (a .l .level))
+    Turn (lineOf kiss) counted maxLine (ruleOf kiss (a .l .level)) (sourceRules kiss (a .l .level)) (rule-rules kiss (a .l .level))
     (gathered (a .l) (a .chunk .now) (a .buffer .now) (a .out .now)) (t .state) (t .n) (a .chunk .now) (t .buffer) (t .out) (t .i) (t .at) (k .scan .result) (k .scan .last .1 .1 .1 .0)
 turn k =
     let t = k .before .before .before .before .loop in
@@ -52,7 +52,7 @@ turn k =
     let rest = take (length (a .chunk .now) - t .i) (drop (t .i) (a .chunk .now)) in
     record {
       within = t .inv .0;
-      segment = omega (arith, segment k, cap-is (a .l .kiss));
+      segment = omega (arith, segment k, cap-is (a .l .kiss) (a .l .level));
       room = room k;
       inv = t .inv .3;
       answer = k .scan .ensures .0 ∙ ap (λ (x : Rule). scanned x (t .state) rest (t .buffer) .answer) r;
@@ -74,7 +74,7 @@ loop-holds c =
     let p = c .before .before .before .before .before in
     let kiss = p .args .l .kiss in
     let level = p .args .l .level in
-    (omega arith, refl, refl, start-inv (lineOf kiss) counted maxLine (ruleOf kiss) (sourceRules kiss level) (rule-rules kiss level) _ _ _ _ _ (p .pre .0))
+    (omega arith, refl, refl, start-inv (lineOf kiss) counted maxLine (ruleOf kiss level) (sourceRules kiss level) (rule-rules kiss level) _ _ _ _ _ (p .pre .0))
 
 sub-scan : tie.Need-sub-scan Inv-loop μ-loop
 sub-scan c = search needs
@@ -148,7 +148,7 @@ returns-2 c =
     let p = c .before .before .before .before .before .before .before in
     let kiss = p .args .l .kiss in
     let level = p .args .l .level in
-    let full = turn-full (lineOf kiss) counted maxLine (ruleOf kiss) (sourceRules kiss level) (rule-rules kiss level) _ (t .state) _ (t .buffer) (t .n) (t .out) (t .i) (t .at) (omega (arith, c .loop-test .left, t .inv .2, p .pre .0)) (t .inv .3) in
+    let full = turn-full (lineOf kiss) counted maxLine (ruleOf kiss level) (sourceRules kiss level) (rule-rules kiss level) _ (t .state) _ (t .buffer) (t .n) (t .out) (t .i) (t .at) (omega (arith, c .loop-test .left, t .inv .2, p .pre .0)) (t .inv .3) in
     let e = ended _ full in
     (e .0, (e .1, e .2))
 

@@ -12,11 +12,11 @@ use Rattle.qaft_read.proofs.rule.Tie as tie
 escapes-requires : tie.Need-escapes-requires
 escapes-requires c κs = tt
 
-cast-t2 : tie.Need-cast-t2
-cast-t2 c = search needs
+cast-t3 : tie.Need-cast-t3
+cast-t3 c = search needs
 
 returns : tie.Need-returns
 returns c = ap (λ (e : Escapes). record { escapes = e; mask = mask; strict = false; cap = maxSegment; check = sumCheck }) (c .escapes .ensures)
 
 pub rule-spec : {M : Type 1} → statement M
-rule-spec = tie.close (tie.spec escapes-requires cast-t2 returns)
+rule-spec = tie.close (tie.spec escapes-requires cast-t3 returns)

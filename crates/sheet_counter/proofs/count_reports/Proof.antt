@@ -1,51 +1,63 @@
 -- `sheet_counter::count_reports` meets its contract. The loop's invariant: what is left of the chunk gives what the whole gives, i octets on.
 -- Assumes nothing.
-use Prim.Native.Nat.{_-_, _≤_}
+use Prim.Native.Nat.{ℕ, _-_, _≤_}
 use mathlib.Core.Path.{_≡_, refl, sym, ap, _∙_}
 use native.Mathlib.Omega.{arith}
 use borrow.Author.Needs.{needs}
-use lib.ListN.{length, take, drop}
+use lib.ListN.{length, drop}
 use Rattle.deframer.proofs.Turns.{Turn, onwards, start-inv, turn-none, turn-within, turn-ends, turn-takes, turn-goes}
-use Rattle.deframer.specs.Scan.{opened, scanned}
+use Rattle.deframer.specs.Rule.{rulesOf}
 use Rattle.deframer.specs.declared.Rule.{Rule}
+use Rattle.framing.specs.Closing.{closing}
 use Rattle.framing.specs.Rules.{State}
 use Rattle.line.specs.Gather.{Gathered, later}
 use Rattle.qaft_read.proofs.SharedRule.{rule-rules}
-use Rattle.qaft_read.specs.Scanned.{rule}
 use Rattle.qaft_report.specs.declared.Report.{Report}
 use Rattle.qaft_rules.specs.Rules.{rules}
 use Rattle.sheet_counter.proofs.count_reports.Statement.{statement}
 use Rattle.sheet_counter.proofs.count_reports.Tie as tie
-use Rattle.sheet_counter.specs.Count.{always, withReport, gatheredFrom, gathered, progressOf}
+use Rattle.sheet_counter.specs.Count.{always, withReport, gatheredFrom, progressOf}
 use Rattle.sheet_found.specs.declared.Found.{Found}
 
+-- at whichever level the rule is that of its rules
 abbrev Inv-loop : tie.InvT-loop
 Inv-loop chunk buffer₀ r state₀ found₀ i₀ buffer state found i =
     (i ≤ length chunk)
     × (length buffer ≡ length buffer₀)
-    × (gatheredFrom 0 state₀ chunk buffer₀ found₀ ≡ later i (onwards withReport always rule (rules 0) (rule-rules 0) state (drop i chunk) buffer found))
+    × ((level : ℕ) (e : rulesOf r ≡ closing (rules level)) → gatheredFrom level state₀ chunk buffer₀ found₀ ≡ later i (onwards withReport always r (rules level) e state (drop i chunk) buffer found))
 
 abbrev μ-loop : tie.MeasureT-loop
 μ-loop chunk buffer₀ r state₀ found₀ i₀ buffer state found i = length chunk - i
 
+-- the rule is that of the counter's level
+same : (k : tie.After-rule Inv-loop μ-loop) → rulesOf (k .rule .result) ≡ closing (rules (k .before .before .before .args .c .level))
+same k = ap rulesOf (k .rule .ensures) ∙ rule-rules _
+
 -- a turn, behind its call of the shared loop
-turn : (k : tie.After-scan Inv-loop μ-loop)
-    → let t = k .before .before .before .before .loop in
-    let a = k .before .before .before .before .before .before .before .before .before .before .args in
-    Turn withReport always rule (rules 0) (rule-rules 0) (gathered (a .c) (a .chunk .now) (a .buffer .now)) (t .state) (a .chunk .now) (t .buffer) (t .found) (t .i) (k .scan .result) (k .scan .last .1 .1 .1 .0)
-turn k =
-    let t = k .before .before .before .before .loop in
-    let a = k .before .before .before .before .before .before .before .before .before .before .args in
-    let r = k .before .before .before .before .before .before .before .rule .ensures in
-    let rest = take (length (a .chunk .now) - t .i) (drop (t .i) (a .chunk .now)) in
-    record {
-      within = t .inv .0;
-      segment = omega (arith, t .inv .1, k .before .before .before .before .before .before .before .before .before .before .pre);
-      wanted = refl;
-      inv = t .inv .2;
-      answer = k .scan .ensures .0 ∙ ap (λ (x : Rule). scanned x (t .state) rest (t .buffer) .answer) r;
-      buffer = k .scan .ensures .1 ∙ ap (λ (x : Rule). scanned x (t .state) rest (t .buffer) .buffer) r;
-    }
+module _ (k : tie.After-scan Inv-loop μ-loop) where
+  abbrev start : tie.After-rule Inv-loop μ-loop
+  start = k .before .before .before .before .before .before .before
+
+  abbrev TurnAt : (level : ℕ) → rulesOf (start .rule .result) ≡ closing (rules level) → Type 0
+  TurnAt level e =
+      let t = k .before .before .before .before .loop in
+      let a = start .before .before .before .args in
+      Turn withReport always (start .rule .result) (rules level) e (gatheredFrom level (a .c .state) (a .chunk .now) (a .buffer .now) (a .c .found)) (t .state) (a .chunk .now) (t .buffer) (t .found) (t .i) (k .scan .result) (k .scan .last .1 .1 .1 .0)
+
+  turnAt : (level : ℕ) (e : rulesOf (start .rule .result) ≡ closing (rules level)) → TurnAt level e
+  turnAt level e =
+      let t = k .before .before .before .before .loop in
+      record {
+        within = t .inv .0;
+        segment = omega (arith, t .inv .1, start .before .before .before .pre, ap (λ (r : Rule). r .cap) (start .rule .ensures));
+        wanted = refl;
+        inv = t .inv .2 level e;
+        answer = k .scan .ensures .0;
+        buffer = k .scan .ensures .1;
+      }
+
+  turn : TurnAt _ (same start)
+  turn = turnAt _ (same start)
 
 -- the result, and the buffer after it
 ended : {whole : Gathered (State _) Found} → (g : Gathered (State _) Found) → whole ≡ g → (progressOf g ≡ progressOf whole) × (g .buffer ≡ whole .buffer)
@@ -55,7 +67,7 @@ rule-requires : tie.Need-rule-requires Inv-loop μ-loop
 rule-requires c κs = tt
 
 loop-holds : tie.Need-loop-holds Inv-loop μ-loop
-loop-holds c = (omega arith, refl, start-inv withReport always rule (rules 0) (rule-rules 0) _ _ _ _ refl)
+loop-holds c = (omega arith, refl, λ level e. start-inv withReport always _ (rules level) e _ _ _ _ refl)
 
 sub-scan : tie.Need-sub-scan Inv-loop μ-loop
 sub-scan c = search needs
@@ -90,11 +102,10 @@ loop-again : tie.Need-loop-again Inv-loop μ-loop
 loop-again c =
     let k = c .before .before .before .before .before .before .before .before in
     let t = k .before .before .before .before .loop in
-    let z = c .opened .ensures ∙ ap opened (k .before .before .before .before .before .before .before .rule .ensures) in
     let w = c .before .with-report .ensures ∙ ap (λ (p : Report). withReport (t .found) p (k .scan .last .1 .1 .1 .0)) (c .before .before .before .report-on .ensures) in (
       turn-within _ _ _ _ _ (turn k),
       k .scan .kept .1 .1 .1 .0 ∙ t .inv .1,
-      turn-goes _ _ _ _ _ (turn k) (c .before .before .before .before .if1 .taken) _ _ z w,
+      λ level e. turn-goes _ _ _ _ _ (turnAt k level e) (c .before .before .before .before .if1 .taken) _ _ (c .opened .ensures) w,
     )
 
 same-length : tie.Need-same-length Inv-loop μ-loop
@@ -109,7 +120,7 @@ same-length-2 c = c .before .loop .inv .1
 returns-2 : tie.Need-returns-2 Inv-loop μ-loop
 returns-2 c =
     let t = c .before .loop in
-    ended _ (turn-none withReport always rule (rules 0) (rule-rules 0) _ (t .state) (c .before .before .before .before .before .before .before .args .chunk .now) (t .buffer) (t .found) (t .i) (omega (arith, c .loop-test .left)) (t .inv .2))
+    ended _ (turn-none withReport always _ (rules _) (same (c .before .before .before .before)) _ (t .state) (c .before .before .before .before .before .before .before .args .chunk .now) (t .buffer) (t .found) (t .i) (omega (arith, c .loop-test .left)) (t .inv .2 _ (same (c .before .before .before .before))))
 
 pub count-reports-spec : {M : Type 1} → statement M
 count-reports-spec =

@@ -1,12 +1,13 @@
 -- `Escapes::escapes` meets its contract. Assumes nothing.
-use mathlib.Core.Path.{refl}
 use Rattle.escapes.proofs.Escapes.escapes.Statement.{statement}
 use Rattle.escapes.proofs.Escapes.escapes.Tie as tie
-use Rattle.escapes.specs.Escapes.{isEscaped}
+use Rattle.escapes.proofs.Several.{two-escaped, four-escaped}
 
 returns : tie.Need-returns
-unfolding isEscaped
-returns c = refl
+returns c = four-escaped _ (c .before .before .if1 .taken) _
+
+returns-2 : tie.Need-returns-2
+returns-2 c = two-escaped _ (c .if1 .left) _
 
 pub escapes-spec : {M : Type 1} → statement M
-escapes-spec = tie.close (tie.spec returns)
+escapes-spec = tie.close (tie.spec returns returns-2)

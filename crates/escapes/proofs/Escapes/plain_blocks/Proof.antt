@@ -25,17 +25,17 @@ sub-loop c = search needs
 add-next : tie.Need-add-next Inv-loop μ-loop
 add-next c = search needs
 
-sub-all-plain : tie.Need-sub-all-plain Inv-loop μ-loop
-sub-all-plain c = search needs
+sub-block-plain : tie.Need-sub-block-plain Inv-loop μ-loop
+sub-block-plain c = search needs
 
-part-all-plain-start : tie.Need-part-all-plain-start Inv-loop μ-loop
-part-all-plain-start c = search needs
+part-block-plain-start : tie.Need-part-block-plain-start Inv-loop μ-loop
+part-block-plain-start c = search needs
 
-part-all-plain-end : tie.Need-part-all-plain-end Inv-loop μ-loop
-part-all-plain-end c = search needs
+part-block-plain-end : tie.Need-part-block-plain-end Inv-loop μ-loop
+part-block-plain-end c = search needs
 
-all-plain-requires : tie.Need-all-plain-requires Inv-loop μ-loop
-all-plain-requires c κs = tt
+block-plain-requires : tie.Need-block-plain-requires Inv-loop μ-loop
+block-plain-requires c κs = tt
 
 loop-less : tie.Need-loop-less Inv-loop μ-loop
 loop-less c = omega arith
@@ -47,7 +47,7 @@ loop-again c =
     let special = isEscaped (a .self) in
     let xs = a .octets .now in
     let z : l .n + 16 - l .n ≡ 16 = omega arith in
-    let p = ap (λ (k : ℕ). plain special (take k (drop (l .n) xs))) (sym z) ∙ sym (c .before .all-plain .ensures) ∙ c .if1 .taken in
+    let p = ap (λ (k : ℕ). plain special (take k (drop (l .n) xs))) (sym z) ∙ sym (c .before .block-plain .ensures) ∙ c .if1 .taken in
     let e = plainLength-block special xs (l .n) 16 (omega arith) p in
     (omega arith, omega arith)
 
@@ -66,10 +66,10 @@ plain-blocks-spec =
     loop-holds
     sub-loop
     add-next
-    sub-all-plain
-    part-all-plain-start
-    part-all-plain-end
-    all-plain-requires
+    sub-block-plain
+    part-block-plain-start
+    part-block-plain-end
+    block-plain-requires
     loop-less
     loop-again
     returns

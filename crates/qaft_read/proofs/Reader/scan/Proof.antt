@@ -16,8 +16,8 @@ use Rattle.qaft_report.specs.declared.Outcome.the-variants.{Reported, UsedUp}
 handed : (c : tie.After-judge)
     → let a = c .before .before .before .before .before .before .before .before .before .before .args in
     let k = c .before .before .before .before .scan in
-    (k .result ≡ scanned rule (stateOf (a .self)) (a .chunk .now) (a .buffer .now) .answer)
-    × (k .last .1 .1 .1 .0 ≡ scanned rule (stateOf (a .self)) (a .chunk .now) (a .buffer .now) .buffer)
+    (k .result ≡ scanned (rule (a .self .level)) (stateOf (a .self)) (a .chunk .now) (a .buffer .now) .answer)
+    × (k .last .1 .1 .1 .0 ≡ scanned (rule (a .self .level)) (stateOf (a .self)) (a .chunk .now) (a .buffer .now) .buffer)
 handed c =
     let a = c .before .before .before .before .before .before .before .before .before .before .args in
     let k = c .before .before .before .before .scan in
