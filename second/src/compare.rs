@@ -3,6 +3,7 @@ mod afp_cases;
 mod afp_read;
 mod afp_write;
 mod captures;
+mod flow;
 mod kiss;
 mod link;
 mod listing;

@@ -178,7 +178,7 @@ pub fn from_qaft(level: u8, capture: &[u8], out: &mut [u8]) -> Converted {
     if level > 1 {
         return Converted::refused(6);
     }
-    let reports = qaft::read_line(capture).reports;
+    let reports = qaft::read_line(level, capture).reports;
     let bodies: Vec<Vec<u8>> = reports
         .iter()
         .filter_map(|r| match r {

@@ -47,7 +47,7 @@ fn text(
 }
 
 pub fn listing(level: u8, capture: &[u8]) -> String {
-    let line = qaft::read_line(capture);
+    let line = qaft::read_line(level, capture);
     let heading = format!("QAFT listing level {level}");
     text(
         &heading,

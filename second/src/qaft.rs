@@ -3,6 +3,8 @@ use crate::Written;
 
 pub const FLAG: u8 = 0x7E;
 pub const ESCAPE: u8 = 0x7D;
+/// Flow control of serial cards, where it stands raw on a level 1 line.
+pub const FLOW_CONTROL: [u8; 2] = [0x11, 0x13];
 pub const MAX_DATA: usize = 2560;
 /// The longest frame: two flags, and each octet of data and check escaped.
 pub const MAX_FRAME: usize = 2 * (MAX_DATA + 1) + 2;
@@ -68,6 +70,17 @@ pub enum Report {
     Bad,
 }
 
+/// Whether a reader skips an octet of the line, wherever it stands.
+pub fn skips(level: u8, x: u8) -> bool {
+    level == 1 && FLOW_CONTROL.contains(&x)
+}
+
+/// A segment as if no octet that is skipped had come.
+pub fn unskipped(level: u8, segment: &[u8]) -> Vec<u8> {
+    let kept = segment.iter().filter(|&&x| !skips(level, x));
+    kept.copied().collect()
+}
+
 /// The octets that a segment stands for, or nothing where its last 7D dangles.
 fn unescaped(segment: &[u8]) -> Option<Vec<u8>> {
     let mut octets = Vec::with_capacity(segment.len());
@@ -82,22 +95,27 @@ fn unescaped(segment: &[u8]) -> Option<Vec<u8>> {
     Some(octets)
 }
 
-/// The report on one segment, the first that applies. The segment holds no flag and is not empty.
-pub fn report(segment: &[u8]) -> Report {
-    let Some(octets) = unescaped(segment) else {
-        return Report::Aborted;
+/// The report on one segment, the first that applies; an empty one says nothing, nor does one of skipped octets alone. The
+/// segment holds no flag.
+pub fn report(level: u8, segment: &[u8]) -> Option<Report> {
+    let segment = unskipped(level, segment);
+    if segment.is_empty() {
+        return None;
+    }
+    let Some(octets) = unescaped(&segment) else {
+        return Some(Report::Aborted);
     };
     if octets.len() > MAX_DATA + 1 {
-        return Report::Long;
+        return Some(Report::Long);
     }
     if octets.len() < 2 {
-        return Report::Short;
+        return Some(Report::Short);
     }
     let data = &octets[..octets.len() - 1];
     if octets[data.len()] != check(data) {
-        return Report::Bad;
+        return Some(Report::Bad);
     }
-    Report::Frame(data.to_vec())
+    Some(Report::Frame(data.to_vec()))
 }
 
 /// A line cut at its flags, each of which stands alone between two parts.
@@ -124,7 +142,7 @@ pub fn cut(line: &[u8]) -> Cut<'_> {
     }
 }
 
-/// What a whole line says: its reports, and how many octets stand before the first flag and after the last.
+/// What a whole line says: its reports, and how many octets stand before the first flag and after the last, skipped ones too.
 #[derive(Debug, PartialEq, Eq)]
 pub struct Line {
     pub reports: Vec<Report>,
@@ -133,15 +151,9 @@ pub struct Line {
 }
 
 /// Reads a whole line.
-pub fn read_line(line: &[u8]) -> Line {
+pub fn read_line(level: u8, line: &[u8]) -> Line {
     let cut = cut(line);
-    // an empty segment says nothing
-    let reports = cut
-        .closed
-        .iter()
-        .filter(|s| !s.is_empty())
-        .map(|s| report(s))
-        .collect();
+    let reports = cut.closed.iter().filter_map(|s| report(level, s)).collect();
     Line {
         reports,
         before: cut.before.len(),

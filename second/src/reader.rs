@@ -1,5 +1,5 @@
 //! The QAFT reader that takes a line portion by portion.
-use crate::qaft::{ESCAPE, FLAG, MAX_DATA};
+use crate::qaft::{skips, ESCAPE, FLAG, MAX_DATA};
 
 /// The store has at least this many octets: the longest data and their check octet.
 pub const STORE: usize = MAX_DATA + 1;
@@ -11,7 +11,7 @@ pub struct State {
     pub level: u8,
     /// whether a flag has come
     pub flag: bool,
-    /// whether the last octet was a 7D that waits for the next
+    /// whether a 7D came last, skipped octets set aside, and waits for its partner
     pub pending: bool,
     /// octets of this segment after undoing escapes; [`MANY`] stands for all above
     pub count: usize,
@@ -51,9 +51,13 @@ impl State {
             && (self.flag || !self.pending && self.count == 0)
     }
 
-    /// Octets of the current segment, without a flag: undone, summed, and stored each at the place its count gives.
+    /// Octets of the current segment, without a flag: undone, summed, and stored each at the place its count gives. One that is
+    /// skipped does none of it, and a 7D goes on waiting.
     fn take_in(&mut self, octets: &[u8], store: &mut [u8]) {
         for &x in octets {
+            if skips(self.level, x) {
+                continue;
+            }
             if !self.pending && x == ESCAPE {
                 self.pending = true;
                 continue;

@@ -1,11 +1,11 @@
 //! Runs of the chunk reader and the link against what the paper says of whole lines and of lists of events.
 use crate::link::{Link, Mode, PAYLOAD, QUEUE, REPLY};
-use crate::qaft::{body, read_line, Report, FLAG};
+use crate::qaft::{body, read_line, Report, FLAG, FLOW_CONTROL};
 use crate::reader::{read, State, STORE};
 use crate::rng::Rng;
 
-/// A line of frames, damaged frames, flags and noise.
-fn line(rng: &Rng) -> Vec<u8> {
+/// A line of frames written at a level, damaged frames, flags and noise.
+fn line(rng: &Rng, level: u8) -> Vec<u8> {
     let mut line = rng.octets(rng.below(3));
     for _ in 0..rng.below(8) {
         let size = rng.pick(&[0, 1, 2, 5, 30, 30, 30, 2559, 2560, 2561, 2562]);
@@ -13,7 +13,7 @@ fn line(rng: &Rng) -> Vec<u8> {
             .map(|_| rng.pick(&[0x7D, 0x7E, 0x11, 0, rng.octet()]))
             .collect();
         line.push(FLAG);
-        line.extend(body(0, &data));
+        line.extend(body(level, &data));
         if rng.once_in(3) {
             let i = rng.below(line.len());
             line[i] = rng.pick(&[0x7D, 0x7E, rng.octet()]);
@@ -23,9 +23,9 @@ fn line(rng: &Rng) -> Vec<u8> {
 }
 
 /// All reports of a line that is handed over in portions of random lengths.
-fn reports(rng: &Rng, line: &[u8]) -> Vec<Report> {
+fn reports(rng: &Rng, level: u8, line: &[u8]) -> Vec<Report> {
     let mut store = vec![0xAA; STORE];
-    let mut state = State::fresh(0);
+    let mut state = State::fresh(level);
     let mut reports = Vec::new();
     let most = rng.pick(&[1, 3, 100, 9000]);
     let mut place = 0;
@@ -50,8 +50,26 @@ fn reports(rng: &Rng, line: &[u8]) -> Vec<Report> {
 fn portions_don_t_matter() {
     let rng = Rng::new(1);
     for _ in 0..3000 {
-        let line = line(&rng);
-        assert_eq!(reports(&rng, &line), read_line(&line).reports);
+        let level = rng.below(2) as u8;
+        let line = line(&rng, level);
+        assert_eq!(reports(&rng, level, &line), read_line(level, &line).reports);
+    }
+}
+
+/// Flow control put anywhere into a level 1 line, however it is cut, changes no report.
+#[test]
+fn flow_control_changes_no_report() {
+    let rng = Rng::new(4);
+    for _ in 0..1000 {
+        let line = line(&rng, 1);
+        let mut more = Vec::new();
+        for &x in &line {
+            while rng.once_in(4) {
+                more.push(rng.pick(&FLOW_CONTROL));
+            }
+            more.push(x);
+        }
+        assert_eq!(reports(&rng, 1, &more), read_line(1, &line).reports);
     }
 }
 

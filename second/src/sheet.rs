@@ -1,23 +1,26 @@
-//! The monthly line sheet of change request 2026-01: what a capture counts, a table with one record a line, the printed lines.
+//! The monthly line sheet of change requests 2026-01 and 2026-02: what a capture counts, a table with one record a line, the
+//! printed lines.
 #[cfg(test)]
 mod worked;
 
 use crate::link::{Link, DACK, DATA, REPLY};
 use crate::qaft::{self, Report};
+use std::ops::Range;
 
 /// Lines have the numbers 0 to 63, also where the table is longer.
 pub const LINES: usize = 64;
-pub const COUNTS: usize = 12;
+pub const COUNTS: usize = 13;
 /// The room that is asked for a printed line: 20 digits for each of its numbers (its own, the counts, two of the share), and the
 /// octet behind each.
 pub const MAX_LINE: usize = (COUNTS + 3) * (20 + 1);
-/// No printed line is longer: a line number of 20 digits, counts of 10, a share of 10 and 11 (all reports are five counts), 13
+/// No printed line is longer: a line number of 20 digits, counts of 10, a share of 10 and 11 (all reports are five counts), 14
 /// spaces, the stroke, the newline.
-pub const LONGEST_LINE: usize = 20 + COUNTS * 10 + 10 + 11 + 13 + 1 + 1;
+pub const LONGEST_LINE: usize = 20 + COUNTS * 10 + 10 + 11 + 14 + 1 + 1;
 
-/// Where in a record the reports 10 to 14 stand, and the bad checks among them.
-const REPORTS: std::ops::Range<usize> = 4..9;
-const BAD_CHECKS: usize = 8;
+/// Where in a record the octet counts stand, that of skipped octets last, the reports 10 to 14, and the bad checks among them.
+pub const OCTETS: Range<usize> = 0..5;
+pub const REPORTS: Range<usize> = 5..10;
+pub const BAD_CHECKS: usize = 9;
 
 /// A line's tallies, in the order in which they are printed (see [`Counts::in_order`]).
 pub type Record = [u32; COUNTS];
@@ -28,10 +31,12 @@ pub struct Counts {
     /// octets before the first flag
     pub before: u64,
     pub flags: u64,
-    /// octets in reported segments, as they stand on the line
+    /// octets in reported segments, as they stand on the line, without those that are skipped
     pub segments: u64,
     /// octets after the last flag
     pub after: u64,
+    /// skipped octets between two flags, in reported segments and in empty ones
+    pub skipped: u64,
     /// reports of each kind, 10 to 14
     pub reports: [u64; 5],
     pub data: u64,
@@ -48,6 +53,7 @@ impl Counts {
             self.flags,
             self.segments,
             self.after,
+            self.skipped,
             frames,
             aborted,
             long,
@@ -80,8 +86,9 @@ fn packet(data: &[u8]) -> Option<(u8, u8)> {
     (answer.number != 23).then_some((control & 0xF0, control & 0x0F))
 }
 
-/// What a capture counts. A segment is reported where it is closed and not empty, so the four octet counts add up to its length.
-pub fn counts(capture: &[u8]) -> Counts {
+/// What a capture counts at a level. A segment is reported where it is closed and has an octet that is not skipped, so the five
+/// octet counts add up to the capture's length.
+pub fn counts(level: u8, capture: &[u8]) -> Counts {
     let cut = qaft::cut(capture);
     let mut counts = Counts {
         before: cut.before.len() as u64,
@@ -90,9 +97,13 @@ pub fn counts(capture: &[u8]) -> Counts {
         ..Counts::default()
     };
     let mut earlier = None;
-    for segment in cut.closed.into_iter().filter(|s| !s.is_empty()) {
-        counts.segments += segment.len() as u64;
-        let report = qaft::report(segment);
+    for segment in cut.closed {
+        let kept = qaft::unskipped(level, segment).len();
+        counts.skipped += (segment.len() - kept) as u64;
+        counts.segments += kept as u64;
+        let Some(report) = qaft::report(level, segment) else {
+            continue;
+        };
         let kind = match report {
             Report::Frame(_) => 0,
             Report::Aborted => 1,
@@ -124,7 +135,7 @@ pub fn count(level: u8, capture: &[u8]) -> Counted {
     }
     Counted {
         number: 0,
-        counts: counts(capture).in_order().map(|n| n.min(1 << 32)),
+        counts: counts(level, capture).in_order().map(|n| n.min(1 << 32)),
     }
 }
 
@@ -145,7 +156,7 @@ pub fn tally(level: u8, capture: &[u8], line: usize, table: &mut [Record]) -> u8
     if line >= LINES || line >= table.len() {
         return 50;
     }
-    match added(&table[line], &counts(capture).in_order()) {
+    match added(&table[line], &counts(level, capture).in_order()) {
         None => 51,
         Some(record) => {
             table[line] = record;

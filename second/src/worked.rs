@@ -48,13 +48,48 @@ fn qaft_writer_refusals() {
 
 #[test]
 fn qaft_segments() {
-    assert_eq!(qaft::report(&hex("10 7D")), Report::Aborted);
-    assert_eq!(qaft::report(&hex("7D")), Report::Aborted);
-    assert_eq!(qaft::report(&hex("00")), Report::Short);
-    assert_eq!(qaft::report(&hex("7D 7D")), Report::Short);
-    assert_eq!(qaft::report(&hex("41 BE")), Report::Bad);
-    assert_eq!(qaft::report(&[0; 2561]), Report::Frame(vec![0; 2560]));
-    assert_eq!(qaft::report(&[0; 2562]), Report::Long);
+    for level in [0, 1] {
+        let report = |segment: &[u8]| qaft::report(level, segment);
+        assert_eq!(report(&[]), None);
+        assert_eq!(report(&hex("10 7D")), Some(Report::Aborted));
+        assert_eq!(report(&hex("7D")), Some(Report::Aborted));
+        assert_eq!(report(&hex("00")), Some(Report::Short));
+        assert_eq!(report(&hex("7D 7D")), Some(Report::Short));
+        assert_eq!(report(&hex("41 BE")), Some(Report::Bad));
+        assert_eq!(report(&[0; 2561]), Some(Report::Frame(vec![0; 2560])));
+        assert_eq!(report(&[0; 2562]), Some(Report::Long));
+    }
+}
+
+/// Change request 2026-02: a segment, and what is reported of it at level 0, where 11 and 13 are data, and at level 1.
+#[test]
+fn flow_control() {
+    let frame = |data: &str| Some(Report::Frame(hex(data)));
+    let case = |segment: &str, level_0, level_1| {
+        assert_eq!(qaft::report(0, &hex(segment)), level_0, "{segment}");
+        assert_eq!(qaft::report(1, &hex(segment)), level_1, "{segment}");
+    };
+    case("11", Some(Report::Short), None);
+    case("13 11 13", Some(Report::Bad), None);
+    case("11 EF", frame("11"), Some(Report::Short));
+    case("7D 31 EF", frame("11"), frame("11"));
+    case("13 41 BF", Some(Report::Bad), frame("41"));
+    case("41 11 BF", Some(Report::Bad), frame("41"));
+    case("41 BF 13", Some(Report::Bad), frame("41"));
+    // between 7D and its partner: 7D 11 is a pair at level 0
+    case("7D 11 5E 82", Some(Report::Bad), frame("7E"));
+    case("7D 13 11 33 ED", Some(Report::Bad), frame("13"));
+    case("7D 11 CF", frame("31"), Some(Report::Short));
+    case("7D 11 7D A3", Some(Report::Bad), frame("5D"));
+    case("7D 11", Some(Report::Short), Some(Report::Aborted));
+    case("11 7D 13 11", Some(Report::Bad), Some(Report::Aborted));
+    case("11 05", Some(Report::Bad), Some(Report::Short));
+    let full = ["00 "; 2561].concat();
+    case(
+        &(full.clone() + "11"),
+        Some(Report::Long),
+        frame(&full[3..]),
+    );
 }
 
 #[test]
@@ -66,6 +101,16 @@ fn listing_of_the_paper() {
         listing(1, b"AB"),
         "QAFT listing level 1\nend 0 before 2 after 0\n"
     );
+}
+
+/// Before and after count every octet, skipped ones too.
+#[test]
+fn listing_of_flow_control() {
+    let capture = hex("11 AA 7E 13 7E 40 11 41 7F 7E 10 7D 13 7E 13 33 11");
+    let text = "QAFT listing level 1\n1 frame 2 4041\n2 aborted\nend 2 before 2 after 3\n";
+    assert_eq!(listing(1, &capture), text);
+    let text = "QAFT listing level 0\n1 short\n2 bad\n3 bad\nend 3 before 2 after 3\n";
+    assert_eq!(listing(0, &capture), text);
 }
 
 /// The capture of examples/ that takes two reads has an escape as the last octet of the first.

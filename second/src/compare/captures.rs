@@ -1,5 +1,7 @@
 //! Captures for the programs. A capture is made of many pieces, and it is the pieces that are counted: a process for each would
 //! take most of the time.
+use super::flow;
+use super::make::each;
 use second::rng::Rng;
 use second::{kiss, qaft};
 
@@ -13,7 +15,7 @@ pub struct Framing {
     /// Octets that are put into a damaged piece.
     damage: [u8; 4],
     /// Octets of which every short segment is made.
-    alphabet: [u8; 8],
+    alphabet: &'static [u8],
     /// What stands on the line of some octets, without the closing flag.
     body: fn(&Rng, &[u8]) -> Vec<u8>,
 }
@@ -22,7 +24,17 @@ pub const QAFT: Framing = Framing {
     flag: qaft::FLAG,
     escape: qaft::ESCAPE,
     damage: [qaft::ESCAPE, qaft::FLAG, 0x11, 0x13],
-    alphabet: [qaft::FLAG, qaft::ESCAPE, 0x00, 0x20, 0x5D, 0xA3, 0x11, 0xEF],
+    alphabet: &[
+        qaft::FLAG,
+        qaft::ESCAPE,
+        0x00,
+        0x20,
+        0x5D,
+        0xA3,
+        0x11,
+        0xEF,
+        0x13,
+    ],
     body: |rng, octets| qaft::body(rng.below(2) as u8, octets),
 };
 
@@ -30,7 +42,7 @@ pub const KISS: Framing = Framing {
     flag: kiss::FEND,
     escape: kiss::FESC,
     damage: [kiss::FESC, kiss::FEND, kiss::TFEND, kiss::TFESC],
-    alphabet: [
+    alphabet: &[
         kiss::FEND,
         kiss::FESC,
         kiss::TFEND,
@@ -61,7 +73,7 @@ fn octets(rng: &Rng, length: usize) -> Vec<u8> {
 }
 
 impl Framing {
-    /// One piece of a capture: a frame, a damaged one, a run of flags, or octets without a rule.
+    /// One piece of a capture: a frame, a damaged one, a run of flags, or octets without a rule; at times with flow control.
     fn piece(&self, rng: &Rng) -> Vec<u8> {
         let size = match rng.below(100) {
             0 => rng.pick(&[2559, 2560, 2561, 2562, 2600, 6000]),
@@ -83,6 +95,9 @@ impl Framing {
                 _ => drop(piece.remove(i)),
             }
         }
+        if rng.once_in(3) {
+            piece = flow::strewn(rng, &piece);
+        }
         piece
     }
 
@@ -92,7 +107,7 @@ impl Framing {
         let cut = rng.pick(&[1, 4, 50, 1000]);
         // most captures begin at a flag, so that the first frame is one
         portions.push(if rng.once_in(4) {
-            octets(rng, 3)
+            flow::strewn(rng, &octets(rng, 3))
         } else {
             vec![self.flag]
         });
@@ -137,20 +152,12 @@ impl Framing {
 
     /// Every segment of up to five octets of a small alphabet, flags among them, with a flag after each.
     pub fn each_segment(&self) -> (u64, Vec<u8>) {
-        let mut longest = vec![vec![]];
+        let segments = &each(self.alphabet, 5)[1..];
         let mut capture = vec![self.flag];
-        let mut pieces = 0;
-        for _ in 0..5 {
-            longest = longest
-                .iter()
-                .flat_map(|s| self.alphabet.map(|x| [&s[..], &[x]].concat()))
-                .collect();
-            pieces += longest.len() as u64;
-            for segment in &longest {
-                capture.extend(segment);
-                capture.push(self.flag);
-            }
+        for segment in segments {
+            capture.extend(segment);
+            capture.push(self.flag);
         }
-        (pieces, capture)
+        (segments.len() as u64, capture)
     }
 }

@@ -1,5 +1,6 @@
 //! KISS: the frame writer, the chunk reader from states of every kind and over lines in random portions, and the conversions of whole
 //! captures.
+use super::flow;
 use super::tally::{hex, Out, Tally};
 use crate::archive::{self, RawKissReader};
 use second::kiss::reader::{self, State, MANY, STORE};
@@ -16,7 +17,7 @@ fn octets(rng: &Rng, length: usize) -> Vec<u8> {
     let special = rng.pick(&[0, 1, 4, 8]);
     for x in &mut octets {
         if rng.below(8) < special {
-            *x = rng.pick(&[0xC0, 0xDB, 0xDC, 0xDD, 0x00, 0x7E, 0x7D, 0x11]);
+            *x = rng.pick(&[0xC0, 0xDB, 0xDC, 0xDD, 0x00, 0x7E, 0x7D, 0x11, 0x13]);
         }
     }
     octets
@@ -164,12 +165,21 @@ pub fn reader(rng: &Rng, count: u64, tally: &mut Tally) {
 
 type Convert = fn(u8, &[u8], &mut [u8]) -> Converted;
 
-/// One conversion of a whole capture, with room for its line, just not, or any.
-fn convert_one(rng: &Rng, capture: &[u8], ours: Convert, archive: Convert, tally: &mut Tally) {
-    let level = match rng.below(16) {
+fn level(rng: &Rng) -> u8 {
+    match rng.below(16) {
         0 => rng.octet(),
         n => (n % 2) as u8,
-    };
+    }
+}
+
+/// One conversion of a whole capture, with room for its line, just not, or any.
+fn convert_one(
+    rng: &Rng,
+    level: u8,
+    capture: &[u8],
+    [ours, archive]: [Convert; 2],
+    tally: &mut Tally,
+) {
     let length = ours(level % 2, capture, &mut vec![0; 4 * capture.len() + 16]).length;
     let room = match rng.below(4) {
         0 => rng.below(length + 2),
@@ -186,7 +196,21 @@ fn convert_one(rng: &Rng, capture: &[u8], ours: Convert, archive: Convert, tally
     });
 }
 
+/// Flow control put into a level 1 capture, of the archive alone: what is written and told is the same.
+fn same_conversion(rng: &Rng, capture: &[u8], tally: &mut Tally) {
+    let room = 2 * capture.len() + 16;
+    let [without, with] = [capture, &flow::strewn(rng, capture)].map(|capture| {
+        let mut out = vec![0; room];
+        (archive::qaft_to_kiss(1, capture, &mut out), out)
+    });
+    tally.claim(
+        "11 and 13 put into a level 1 capture change no conversion",
+        without == with,
+    );
+}
+
 pub fn from_qaft(rng: &Rng, count: u64, tally: &mut Tally) {
+    flow::came_up(&[0, 1], tally);
     for _ in 0..count {
         let mut capture = octets(rng, rng.below(6));
         for _ in 0..rng.below(5) {
@@ -201,10 +225,22 @@ pub fn from_qaft(rng: &Rng, count: u64, tally: &mut Tally) {
                 let i = rng.below(body.len());
                 body[i] = rng.octet();
             }
+            match rng.below(16) {
+                0 => body.clear(),
+                1 => body.push(qaft::ESCAPE),
+                _ => {}
+            }
             capture.extend(body);
         }
         capture.push(qaft::FLAG);
-        convert_one(rng, &capture, kiss::from_qaft, archive::qaft_to_kiss, tally);
+        same_conversion(rng, &capture, tally);
+        if rng.once_in(2) {
+            capture = flow::strewn(rng, &capture);
+        }
+        let level = level(rng);
+        flow::count(level, &capture, tally);
+        let ways = [kiss::from_qaft, archive::qaft_to_kiss];
+        convert_one(rng, level, &capture, ways, tally);
     }
 }
 
@@ -215,6 +251,7 @@ pub fn to_qaft(rng: &Rng, count: u64, tally: &mut Tally) {
         while rng.once_in(3) {
             capture.extend(line(rng));
         }
-        convert_one(rng, &capture, kiss::to_qaft, archive::kiss_to_qaft, tally);
+        let ways = [kiss::to_qaft, archive::kiss_to_qaft];
+        convert_one(rng, level(rng), &capture, ways, tally);
     }
 }

@@ -1,5 +1,6 @@
 //! The listing programs, run as processes.
 use super::captures::{Framing, KISS, QAFT};
+use super::flow;
 use super::process::{by_datagrams, by_pipe, examples, program, run, Run};
 use super::tally::{hex, Tally};
 use second::rng::Rng;
@@ -31,40 +32,40 @@ fn kiss_number(report: &kiss::Report) -> u8 {
     }
 }
 
-/// A listing program: its name, what its captures are made of, the numbers of a capture's reports, and the listing.
+/// A listing program: its name and level, what its captures are made of, what is counted of a capture, and the listing.
 struct Program {
     name: &'static str,
+    level: u8,
     framing: Framing,
-    numbers: fn(&[u8]) -> Vec<u8>,
-    listing: fn(&[u8]) -> String,
+    count: Count,
+    listing: fn(u8, &[u8]) -> String,
 }
 
-/// The numbers of a capture's reports.
-pub fn qaft_numbers(capture: &[u8]) -> Vec<u8> {
-    qaft::read_line(capture)
-        .reports
-        .iter()
-        .map(number)
-        .collect()
+/// Counts what comes up in a capture that is read at a level.
+pub type Count = fn(u8, &[u8], &mut Tally);
+
+/// The numbers of a capture's reports, and how flow control stands in it.
+pub fn count_qaft(level: u8, capture: &[u8], tally: &mut Tally) {
+    for report in &qaft::read_line(level, capture).reports {
+        tally.number(number(report));
+    }
+    flow::count(level, capture, tally);
 }
 
-pub fn kiss_numbers(capture: &[u8]) -> Vec<u8> {
-    kiss::read_line(capture)
-        .reports
-        .iter()
-        .map(kiss_number)
-        .collect()
+/// The numbers of a capture's reports; KISS has no level.
+pub fn count_kiss(_level: u8, capture: &[u8], tally: &mut Tally) {
+    for report in &kiss::read_line(capture).reports {
+        tally.number(kiss_number(report));
+    }
 }
 
 impl Program {
     /// Compares what it has printed of a capture; it has nothing to say on standard error.
     fn one(&self, pieces: u64, capture: &[u8], archive: Run, tally: &mut Tally) {
-        for number in (self.numbers)(capture) {
-            tally.number(number);
-        }
+        (self.count)(self.level, capture, tally);
         let text = String::from_utf8_lossy(&archive.output).into_owned();
         let archive = (archive.good, text, archive.messages);
-        let ours = (true, (self.listing)(capture), String::new());
+        let ours = (true, (self.listing)(self.level, capture), String::new());
         tally.inputs(pieces, &ours, &archive, || hex(capture));
     }
 
@@ -90,32 +91,33 @@ impl Program {
     }
 }
 
-pub fn level_0(rng: &Rng, count: u64, tally: &mut Tally) {
+fn qaft(name: &'static str, level: u8, rng: &Rng, count: u64, tally: &mut Tally) {
+    flow::came_up(&[level], tally);
     Program {
-        name: "list_level0",
+        name,
+        level,
         framing: QAFT,
-        numbers: qaft_numbers,
-        listing: |capture| listing::listing(0, capture),
+        count: count_qaft,
+        listing: listing::listing,
     }
     .compare(rng, count, tally);
 }
 
+pub fn level_0(rng: &Rng, count: u64, tally: &mut Tally) {
+    qaft("list_level0", 0, rng, count, tally);
+}
+
 pub fn level_1(rng: &Rng, count: u64, tally: &mut Tally) {
-    Program {
-        name: "list_level1",
-        framing: QAFT,
-        numbers: qaft_numbers,
-        listing: |capture| listing::listing(1, capture),
-    }
-    .compare(rng, count, tally);
+    qaft("list_level1", 1, rng, count, tally);
 }
 
 pub fn kiss(rng: &Rng, count: u64, tally: &mut Tally) {
     Program {
         name: "list_kiss",
+        level: 0,
         framing: KISS,
-        numbers: kiss_numbers,
-        listing: listing::kiss_listing,
+        count: count_kiss,
+        listing: |_, capture| listing::kiss_listing(capture),
     }
     .compare(rng, count, tally);
 }

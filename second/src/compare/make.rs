@@ -13,6 +13,20 @@ pub fn octets(rng: &Rng, length: usize) -> Vec<u8> {
     octets
 }
 
+/// Every sequence of up to so many octets of an alphabet, the shorter ones first.
+pub fn each(alphabet: &[u8], most: usize) -> Vec<Vec<u8>> {
+    let mut all = vec![vec![]];
+    let mut longest = all.clone();
+    for _ in 0..most {
+        longest = longest
+            .iter()
+            .flat_map(|s| alphabet.iter().map(|&x| [&s[..], &[x]].concat()))
+            .collect();
+        all.extend(longest.clone());
+    }
+    all
+}
+
 const CALLSIGN: &[u8] = b"ABCDEFGHIJKLMNOPQRSTUVWXYZ0123456789/";
 
 /// Octets on both sides of each border of the ID rule.

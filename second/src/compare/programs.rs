@@ -1,9 +1,9 @@
 //! The programs that convert captures, run as processes: what they write is the line that the archive's function for a whole
 //! capture writes, and the second program's; their last line has the counts of both.
 use super::captures::{Framing, KISS, QAFT};
-use super::listing;
 use super::process::{by_datagrams, by_pipe, examples, program, run, Run};
 use super::tally::{hex, Tally};
+use super::{flow, listing};
 use crate::archive;
 use second::kiss::{self, Converted};
 use second::rng::Rng;
@@ -22,14 +22,14 @@ const PATIENCE: Duration = Duration::from_secs(20);
 
 type Convert = fn(u8, &[u8], &mut [u8]) -> Converted;
 
-/// A way to convert: the program of level 0, the framing of its captures, the two functions for whole captures, and the numbers of
-/// a capture's reports.
+/// A way to convert: the program of level 0, the framing of its captures, the two functions for whole captures, and what is counted
+/// of a capture.
 struct Way {
     name: &'static str,
     framing: Framing,
     ours: Convert,
     archive: Convert,
-    numbers: fn(&[u8]) -> Vec<u8>,
+    count: listing::Count,
 }
 
 const OUT_OF_QAFT: Way = Way {
@@ -37,7 +37,7 @@ const OUT_OF_QAFT: Way = Way {
     framing: QAFT,
     ours: kiss::from_qaft,
     archive: archive::qaft_to_kiss,
-    numbers: listing::qaft_numbers,
+    count: listing::count_qaft,
 };
 
 const INTO_QAFT: Way = Way {
@@ -45,7 +45,7 @@ const INTO_QAFT: Way = Way {
     framing: KISS,
     ours: kiss::to_qaft,
     archive: archive::kiss_to_qaft,
-    numbers: listing::kiss_numbers,
+    count: listing::count_kiss,
 };
 
 /// What a program has to write of a capture, by a function for whole captures.
@@ -72,9 +72,7 @@ impl Way {
 
     /// Compares what the program and the archive's function have made of a capture.
     fn one(&self, level: u8, pieces: u64, capture: &[u8], seen: Run, tally: &mut Tally) {
-        for number in (self.numbers)(capture) {
-            tally.number(number);
-        }
+        (self.count)(level, capture, tally);
         let ours = expected(self.ours, level, capture);
         let whole = expected(self.archive, level, capture);
         tally.inputs(pieces, &[ours.clone(), ours], &[whole, seen], || {
@@ -174,6 +172,7 @@ impl Way {
 }
 
 pub fn from_qaft(rng: &Rng, count: u64, tally: &mut Tally) {
+    flow::came_up(&[0, 1], tally);
     OUT_OF_QAFT.compare(rng, count, tally);
 }
 

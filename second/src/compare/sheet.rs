@@ -7,10 +7,11 @@ mod program;
 pub use lines::compare as lines;
 pub use program::{compare as program, NUMBERS as RUN_NUMBERS};
 
+use super::flow;
 use super::tally::{hex, Tally};
 use crate::archive::sheet as archive;
 use second::rng::Rng;
-use second::sheet::{self, Counted, Record, COUNTS, LINES};
+use second::sheet::{self, Counted, Record, COUNTS, LINES, OCTETS};
 
 pub const NUMBERS: [u8; 4] = [0, 6, 50, 51];
 
@@ -23,6 +24,7 @@ const ALONE: [&str; COUNTS] = [
     "51 by flags alone",
     "51 by octets in segments alone",
     "51 by octets after alone",
+    "51 by skipped octets alone",
     "51 by frames alone",
     "51 by aborted alone",
     "51 by long alone",
@@ -68,7 +70,7 @@ impl Call<'_> {
         if !rng.once_in(4) {
             *record = record.map(|n| n % 1000);
         }
-        let more = sheet::counts(self.capture).in_order();
+        let more = sheet::counts(self.level, self.capture).in_order();
         let some: Vec<usize> = (0..COUNTS).filter(|&i| more[i] > 0).collect();
         if !some.is_empty() {
             let i = rng.pick(&some);
@@ -79,7 +81,8 @@ impl Call<'_> {
     /// Counts the second program's answer, and how it came about.
     fn count(&self, number: u8, later: &[Record], tally: &mut Tally) {
         tally.number(number);
-        let more = sheet::counts(self.capture).in_order();
+        flow::count(self.level, self.capture, tally);
+        let more = sheet::counts(self.level, self.capture).in_order();
         match number {
             0 => {
                 let full = |i: &usize| later[self.line][*i] == u32::MAX && more[*i] > 0;
@@ -100,9 +103,9 @@ impl Call<'_> {
     /// Sentences of the request, checked of the archive alone.
     fn claims(&self, counted: &Counted, number: u8, later: &[Record], tally: &mut Tally) {
         if counted.number == 0 {
-            let octets: u64 = counted.counts[..4].iter().sum();
+            let octets: u64 = counted.counts[OCTETS].iter().sum();
             let adds_up = octets == self.capture.len() as u64;
-            tally.claim("the four octet counts add up to the capture", adds_up);
+            tally.claim("the five octet counts add up to the capture", adds_up);
         }
         let kept = |i: usize| later[i] == self.table[i] || number == 0 && i == self.line;
         let own = (0..later.len()).all(kept);
@@ -165,16 +168,17 @@ fn one(rng: &Rng, capture: &[u8], before: Vec<Record>, tally: &mut Tally) -> Vec
     call.compare(rng, tally)
 }
 
-/// Each count, brought to the highest number by a capture, and to one above.
-fn limits(rng: &Rng, tally: &mut Tally) {
+/// Each count, brought to the highest number by a capture, and to one above, at a level. The skipped octets of level 0 are none, and
+/// pass no limit.
+fn limits(rng: &Rng, level: u8, tally: &mut Tally) {
     let capture = make::each_count();
-    let more = sheet::counts(&capture).in_order();
+    let more = sheet::counts(level, &capture).in_order();
     for (i, more) in more.into_iter().enumerate() {
         for above in [0, 1] {
             let mut table = vec![[9; COUNTS]; 2];
-            table[1][i] = u32::MAX - more as u32 + above;
+            table[1][i] = u32::MAX - (more as u32).saturating_sub(above);
             let call = Call {
-                level: 0,
+                level,
                 capture: &capture,
                 line: 1,
                 table,
@@ -184,13 +188,30 @@ fn limits(rng: &Rng, tally: &mut Tally) {
     }
 }
 
+/// Flow control put into a level 1 capture, of the archive alone: what is counted of flags, reported segments, reports and packets is
+/// the same.
+fn same_counts(rng: &Rng, capture: &[u8], tally: &mut Tally) {
+    let [without, with] = [capture, &flow::strewn(rng, capture)].map(|capture| {
+        let mut counted = archive::count(1, capture);
+        let [before, _, _, after, skipped] = &mut counted.counts[OCTETS] else {
+            unreachable!("five octet counts");
+        };
+        [*before, *after, *skipped] = [0; 3];
+        counted
+    });
+    tally.claim(
+        "11 and 13 put into a level 1 capture change before, after and skipped alone",
+        without == with,
+    );
+}
+
 /// Captures whose counts reach 2^32. Zeros that nobody writes to take no memory; a copy of them would, and the second program
 /// makes one of each segment, so what they count is said by hand.
 fn longest(tally: &mut Tally) {
     const MOST: u64 = u32::MAX as u64;
     let mut octets = vec![0_u8; MOST as usize + 4];
-    let before = |n| [n, 0, 0, 0, 0, 0, 0, 0, 0, 0, 0, 0];
-    let long = |n| [0, 2, n, 0, 0, 0, 1, 0, 0, 0, 0, 0];
+    let before = |n| [n, 0, 0, 0, 0, 0, 0, 0, 0, 0, 0, 0, 0];
+    let long = |n| [0, 2, n, 0, 0, 0, 0, 1, 0, 0, 0, 0, 0];
     let mut one = |octets: &[u8], counts: [u64; COUNTS]| {
         let mut table = [[0; COUNTS]; 2];
         let number = archive::tally(0, octets, 1, &mut table);
@@ -219,7 +240,9 @@ pub fn captures(rng: &Rng, count: u64, tally: &mut Tally) {
     came_up(&ALONE, tally);
     came_up(&[AT_LIMIT, PAST_TABLE, PAST_LINES], tally);
     came_up(&lines::COUNTED, tally);
-    limits(rng, tally);
+    flow::came_up(&[0, 1], tally);
+    limits(rng, 0, tally);
+    limits(rng, 1, tally);
     let mut table = Vec::new();
     for capture in make::each_short().into_iter().chain(make::each_sequence()) {
         table = one(rng, &capture, table, tally);
@@ -230,7 +253,12 @@ pub fn captures(rng: &Rng, count: u64, tally: &mut Tally) {
             1..=20 => rng.below(200),
             _ => rng.below(8),
         };
-        table = one(rng, &make::capture(rng, pieces), table, tally);
+        let mut capture = make::capture(rng, pieces);
+        same_counts(rng, &capture, tally);
+        if rng.once_in(3) {
+            capture = flow::strewn(rng, &capture);
+        }
+        table = one(rng, &capture, table, tally);
     }
     if count >= FULL {
         longest(tally);

@@ -178,6 +178,24 @@ fn portions_report_what_the_line_reports() {
     }
 }
 
+/// Flow control on a level 1 line is no part of what is converted; on a KISS line it is data.
+#[test]
+fn flow_control() {
+    let capture = [0x7E, 0x13, 0x7E, 0x41, 0x11, 0xBF, 0x7E, 0x41, 0xBF];
+    let mut out = [0; 16];
+    let told = |level, out: &mut [u8]| {
+        let told = from_qaft(level, &capture, out);
+        (told.number, told.length, told.frames, told.others)
+    };
+    assert_eq!(told(0, &mut out), (0, 0, 0, 2));
+    assert_eq!(told(1, &mut out), (0, 4, 1, 0));
+    assert_eq!(out[..4], [FEND, 0x00, 0x41, FEND]);
+    let line = [FEND, 0x00, 0x11, FEND];
+    assert_eq!(read_line(&line).reports, [Report::Frame(vec![0x11])]);
+    assert_eq!(to_qaft(1, &line, &mut out).length, 5);
+    assert_eq!(out[..5], [0x7E, 0x7D, 0x31, 0xEF, 0x7E]);
+}
+
 #[test]
 fn there_and_back() {
     let rng = Rng::new(6);

@@ -21,43 +21,71 @@ fn frames(all: &[&[u8]]) -> Vec<u8> {
 
 /// DATA, DACK and repeats of a line of frames.
 fn packets(all: &[&[u8]]) -> (u64, u64, u64) {
-    let counts = counts(&frames(all));
+    let counts = counts(0, &frames(all));
     assert_eq!(counts.reports, [all.len() as u64, 0, 0, 0, 0]);
     (counts.data, counts.dack, counts.repeats)
 }
 
-/// The octet counts of a capture, and how many reports it has.
-fn octets(capture: &[u8]) -> ([u64; 4], u64) {
-    let counts = counts(capture);
+/// The octet counts of a capture at a level, and how many reports it has.
+fn octets(level: u8, capture: &[u8]) -> ([u64; 5], u64) {
+    let counts = counts(level, capture);
+    let octets = &counts.in_order()[OCTETS];
     let reports = counts.reports.iter().sum();
-    (
-        [counts.before, counts.flags, counts.segments, counts.after],
-        reports,
-    )
+    (octets.try_into().expect("five octet counts"), reports)
 }
 
 #[test]
 fn capture_of_the_paper() {
     let mut table = [[0; COUNTS]; LINES];
     assert_eq!(tally(0, &PAPER, 0, &mut table), 0);
-    assert_eq!(line(0, &table[0]), "0 1 5 6 1 1 1 0 1 0 1 0 0 0/1\n");
+    assert_eq!(line(0, &table[0]), "0 1 5 6 1 0 1 1 0 1 0 1 0 0 0/1\n");
     assert_eq!(table[1..], [[0; COUNTS]; LINES - 1]);
     assert_eq!(tally(1, &PAPER, 0, &mut table), 0);
-    assert_eq!(line(0, &table[0]), "0 2 10 12 2 2 2 0 2 0 2 0 0 0/1\n");
+    assert_eq!(line(0, &table[0]), "0 2 10 12 2 0 2 2 0 2 0 2 0 0 0/1\n");
 }
 
 #[test]
 fn octets_before_and_after() {
-    assert_eq!(octets(b""), ([0, 0, 0, 0], 0));
+    let octets = |capture: &[u8]| octets(0, capture);
+    assert_eq!(octets(b""), ([0, 0, 0, 0, 0], 0));
     // no flag: all before, whatever they are
-    assert_eq!(octets(&[0x41, ESCAPE, 0x41]), ([3, 0, 0, 0], 0));
+    assert_eq!(octets(&[0x41, ESCAPE, 0x41]), ([3, 0, 0, 0, 0], 0));
     // one flag: none in segments
-    assert_eq!(octets(&[0x41, FLAG, 0x41, ESCAPE]), ([1, 1, 0, 2], 0));
-    assert_eq!(octets(&[FLAG]), ([0, 1, 0, 0], 0));
+    assert_eq!(octets(&[0x41, FLAG, 0x41, ESCAPE]), ([1, 1, 0, 2, 0], 0));
+    assert_eq!(octets(&[FLAG]), ([0, 1, 0, 0, 0], 0));
     // only flags: empty segments say nothing
-    assert_eq!(octets(&[FLAG; 7]), ([0, 7, 0, 0], 0));
+    assert_eq!(octets(&[FLAG; 7]), ([0, 7, 0, 0, 0], 0));
     // raw octets of the line: both of an escape's count
-    assert_eq!(octets(&frames(&[&[FLAG]])), ([0, 2, 3, 0], 1));
+    assert_eq!(octets(&frames(&[&[FLAG]])), ([0, 2, 3, 0, 0], 1));
+}
+
+/// Flow control at level 1 stands in the fifth count between two flags, and before and after outside; at level 0 it is data.
+#[test]
+fn skipped_octets() {
+    let one = |capture: &[u8], level_0, level_1| {
+        assert_eq!(octets(0, capture), level_0, "{capture:X?}");
+        assert_eq!(octets(1, capture), level_1, "{capture:X?}");
+    };
+    let outside = [0x11, 0x41, FLAG, 0x13, 0x11];
+    one(&outside, ([2, 1, 0, 2, 0], 0), ([2, 1, 0, 2, 0], 0));
+    one(&[0x13; 3], ([3, 0, 0, 0, 0], 0), ([3, 0, 0, 0, 0], 0));
+    let alone = [FLAG, 0x11, 0x13, FLAG, FLAG, 0x13, FLAG];
+    one(&alone, ([0, 4, 3, 0, 0], 2), ([0, 4, 0, 0, 3], 0));
+    // between 7D and its partner, and between 7D and the flag
+    let pair = [FLAG, ESCAPE, 0x11, 0x5E, 0x82, FLAG];
+    one(&pair, ([0, 2, 4, 0, 0], 1), ([0, 2, 3, 0, 1], 1));
+    let aborted = [FLAG, 0x11, ESCAPE, 0x13, FLAG, 0x13];
+    one(&aborted, ([0, 2, 3, 1, 0], 1), ([0, 2, 1, 1, 2], 1));
+    // a DATA, and a repeat of it
+    let mut line = frames(&[&[0x43]]);
+    line.extend([0x43, 0x11, 0xBD, FLAG]);
+    let mut table = [[0; COUNTS]; 2];
+    assert_eq!(tally(0, &line, 0, &mut table), 0);
+    assert_eq!(tally(1, &line, 1, &mut table), 0);
+    assert_eq!(
+        sheet(&table),
+        "0 0 3 5 0 0 1 0 0 0 1 1 0 0 1/2\n1 0 3 4 0 1 2 0 0 0 0 2 0 1 0/1\n"
+    );
 }
 
 #[test]
@@ -69,7 +97,7 @@ fn reports_by_kind() {
         line.extend(segment);
         line.push(FLAG);
     }
-    let counts = counts(&line);
+    let counts = counts(0, &line);
     assert_eq!(counts.reports, [1, 2, 2, 2, 2]);
     assert_eq!(counts.segments, 2 + 2 * (2 + 2562 + 1 + 2));
     assert_eq!(counts.flags, 10);
@@ -99,7 +127,7 @@ fn repeats() {
     let mut line = frames(&[&[0x43]]);
     line.extend([0x44, 0xBB, FLAG, 0x44, ESCAPE, FLAG, 0x44, FLAG]);
     line.extend(frames(&[&[0x43]]));
-    let found = counts(&line);
+    let found = counts(0, &line);
     assert_eq!(found.reports, [2, 1, 0, 1, 1]);
     assert_eq!((found.data, found.repeats), (2, 1));
 }
@@ -120,7 +148,7 @@ fn no_repeat_across_captures() {
     let mut table = [[0; COUNTS]; 2];
     assert_eq!(tally(0, &capture, 1, &mut table), 0);
     assert_eq!(tally(0, &capture, 1, &mut table), 0);
-    assert_eq!(line(1, &table[1]), "1 0 4 4 0 2 0 0 0 0 2 0 0 0/1\n");
+    assert_eq!(line(1, &table[1]), "1 0 4 4 0 0 2 0 0 0 0 2 0 0 0/1\n");
 }
 
 #[test]
@@ -146,11 +174,11 @@ fn refusals_in_order() {
 #[test]
 fn counts_at_the_limit() {
     let mut capture = PAPER.to_vec();
-    capture.extend([FLAG, 0x41, 0xBE, FLAG]);
+    capture.extend([FLAG, 0x13, 0x41, 0xBE, 0x11, FLAG]);
     capture.extend([0; MAX_DATA + 2]);
     capture.extend(frames(&[&[0x40], &[0x50]]));
     capture.push(0x33);
-    let more = counts(&capture).in_order();
+    let more = counts(1, &capture).in_order();
     for (i, &n) in more.iter().enumerate() {
         assert!(n > 0, "count {i}");
         let mut table = [[7; COUNTS]];
@@ -160,12 +188,12 @@ fn counts_at_the_limit() {
             *count += n;
         }
         assert_eq!(later[i], 4_294_967_295);
-        assert_eq!(tally(0, &capture, 0, &mut table), 0);
+        assert_eq!(tally(1, &capture, 0, &mut table), 0);
         assert_eq!(table[0].map(u64::from), later);
         table[0] = [7; COUNTS];
         table[0][i] = MOST - n as u32 + 1;
         let before = table;
-        assert_eq!(tally(0, &capture, 0, &mut table), 51);
+        assert_eq!(tally(1, &capture, 0, &mut table), 51);
         assert_eq!(table, before);
     }
 }
@@ -195,9 +223,9 @@ fn shares() {
 #[test]
 fn longest_line() {
     let mut record = [MOST; COUNTS];
-    record[4] = MOST - 1;
+    record[REPORTS.start] = MOST - 1;
     let text = line(usize::MAX, &record);
-    assert_eq!((text.len(), LONGEST_LINE, MAX_LINE), (176, 176, 315));
+    assert_eq!((text.len(), LONGEST_LINE, MAX_LINE), (187, 187, 336));
     let mut out = [0xAA; MAX_LINE + 1];
     assert_eq!(put_line(usize::MAX, &record, &mut out[..MAX_LINE - 1]), 0);
     assert_eq!(out, [0xAA; MAX_LINE + 1]);
@@ -208,7 +236,7 @@ fn longest_line() {
     assert_eq!(behind, [0xAA; MAX_LINE + 1 - LONGEST_LINE]);
     // the room that is asked for does not depend on the line
     assert_eq!(put_line(0, &[0; COUNTS], &mut out[..MAX_LINE - 1]), 0);
-    assert_eq!(put_line(0, &[0; COUNTS], &mut out), 30);
+    assert_eq!(put_line(0, &[0; COUNTS], &mut out), 32);
 }
 
 #[test]
@@ -218,7 +246,7 @@ fn whole_sheet() {
     assert_eq!(tally(0, &PAPER, 1, &mut table), 0);
     assert_eq!(
         sheet(&table),
-        "0 0 0 0 0 0 0 0 0 0 0 0 0 0/1\n1 1 5 6 1 1 1 0 1 0 1 0 0 0/1\n2 0 0 0 0 0 0 0 0 0 0 0 0 0/1\n"
+        "0 0 0 0 0 0 0 0 0 0 0 0 0 0 0/1\n1 1 5 6 1 0 1 1 0 1 0 1 0 0 0/1\n2 0 0 0 0 0 0 0 0 0 0 0 0 0 0/1\n"
     );
     // every record of a table that is longer than the lines go
     assert_eq!(sheet(&[[0; COUNTS]; 66]).lines().count(), 66);
@@ -237,19 +265,21 @@ fn counts_of_a_level() {
         count(1, &PAPER),
         Counted {
             number: 0,
-            counts: [1, 5, 6, 1, 1, 1, 0, 1, 0, 1, 0, 0]
+            counts: [1, 5, 6, 1, 0, 1, 1, 0, 1, 0, 1, 0, 0]
         }
     );
 }
 
-/// What a capture adds to the four octet counts adds up to its length.
+/// What a capture adds to the five octet counts adds up to its length.
 #[test]
 fn octet_counts_add_up() {
     let rng = Rng::new(3);
     for _ in 0..3_000 {
-        let few = [FLAG, FLAG, ESCAPE, 0x40, 0x00, rng.octet()];
+        let few = [FLAG, FLAG, ESCAPE, 0x40, 0x00, 0x11, 0x13, rng.octet()];
         let capture: Vec<u8> = (0..rng.below(40)).map(|_| rng.pick(&few)).collect();
-        let (counts, _) = octets(&capture);
-        assert_eq!(counts.iter().sum::<u64>(), capture.len() as u64);
+        for level in [0, 1] {
+            let (counts, _) = octets(level, &capture);
+            assert_eq!(counts.iter().sum::<u64>(), capture.len() as u64);
+        }
     }
 }

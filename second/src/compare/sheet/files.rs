@@ -1,4 +1,5 @@
 //! Files of captures for the program line_sheet, and its arguments.
+use super::super::flow;
 use super::super::process::{examples, place};
 use super::make;
 use second::qaft::{self, FLAG};
@@ -132,7 +133,10 @@ pub fn set(rng: &Rng, files: &Files, most: u64) -> (u64, Vec<Entry>) {
             (kind, _) => {
                 let size = pieces(rng).min(left);
                 left -= size;
-                let capture = make::capture(rng, size as usize);
+                let mut capture = make::capture(rng, size as usize);
+                if rng.once_in(2) {
+                    capture = flow::strewn(rng, &capture);
+                }
                 let file = match kind {
                     3 if !piped => PIPE.to_owned(),
                     _ => files.write(i, &capture),
@@ -149,9 +153,14 @@ pub fn set(rng: &Rng, files: &Files, most: u64) -> (u64, Vec<Entry>) {
     (most - left, entries)
 }
 
-/// Two DATA of one number, the second a repeat, with an escape in both, so that the end of a read falls on each of their octets.
-pub fn across_reads(rng: &Rng, files: &Files) -> Vec<Entry> {
-    let body = qaft::body(0, &[0x43, FLAG, 0x41]);
+/// Two DATA of one number, the second a repeat, with an escape in both, so that the end of a read falls on each of their octets. At
+/// level 1 flow control stands on both sides of each.
+pub fn across_reads(rng: &Rng, level: u8, files: &Files) -> Vec<Entry> {
+    let body = qaft::body(level, &[0x43, FLAG, 0x41]);
+    let body = match level {
+        0 => body,
+        _ => body.iter().flat_map(|&x| [0x13, x, 0x11]).collect(),
+    };
     let frames = [&[FLAG], &body[..], &[FLAG], &body, &[FLAG]].concat();
     let entry = |i: usize| {
         let mut capture = Vec::new();

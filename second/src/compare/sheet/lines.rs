@@ -3,14 +3,14 @@ use super::super::tally::{Out, Tally};
 use super::{came_up, make};
 use crate::archive::sheet as archive;
 use second::rng::Rng;
-use second::sheet::{self, Record, COUNTS, LINES, LONGEST_LINE, MAX_LINE};
+use second::sheet::{self, Record, BAD_CHECKS, COUNTS, LINES, LONGEST_LINE, MAX_LINE, REPORTS};
 
 const PRINTED: &str = "lines printed";
 const NO_ROOM: &str = "lines for which out is too small";
 /// What has to come up wherever lines are printed.
 pub const COUNTED: [&str; 2] = [PRINTED, NO_ROOM];
 /// What has to come up where lines of any number are.
-const LONGEST: &str = "lines of 176 octets";
+const LONGEST: &str = "lines of 187 octets";
 
 /// Room for a printed line: most often what is asked for.
 fn room(rng: &Rng) -> usize {
@@ -35,7 +35,7 @@ pub fn printed(
     let by_archive = archive::put_line(number, records[1], archive.room());
     tally.count(if length == 0 { NO_ROOM } else { PRINTED }, 1);
     tally.claim(
-        "no line is longer than 176 octets",
+        "no line is longer than 187 octets",
         by_archive <= LONGEST_LINE,
     );
     [(length, ours), (by_archive, archive)]
@@ -51,7 +51,7 @@ fn print_one(rng: &Rng, number: usize, record: &Record, tally: &mut Tally) {
 /// A record of so many frames and bad checks, and of nothing else.
 fn two_kinds(frames: u32, bad: u32) -> Record {
     let mut record = [0; COUNTS];
-    (record[4], record[8]) = (frames, bad);
+    (record[REPORTS.start], record[BAD_CHECKS]) = (frames, bad);
     record
 }
 
@@ -80,7 +80,7 @@ pub fn compare(rng: &Rng, count: u64, tally: &mut Tally) {
         // reports that have a divisor in common
         if rng.once_in(4) {
             let divisor = rng.between(1, 1 << rng.below(32)) as u32;
-            for n in &mut record[4..9] {
+            for n in &mut record[REPORTS] {
                 *n -= *n % divisor;
             }
         }

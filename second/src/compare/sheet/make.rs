@@ -1,5 +1,5 @@
 //! Makes captures of DLC packets, damaged ones and noise, and records with counts of every size.
-use super::super::make::octets;
+use super::super::make::{each, octets};
 use second::link::{DACK, DATA, PAYLOAD, RESET, RESET_ACK};
 use second::qaft::{self, ESCAPE, FLAG, MAX_DATA};
 use second::rng::Rng;
@@ -84,23 +84,17 @@ pub fn capture(rng: &Rng, pieces: usize) -> Vec<u8> {
 }
 
 /// Every capture of up to five octets of a small alphabet: flag, escape, DATA 0 and DACK 0 with their check octets, an octet that
-/// stands for DATA 0 behind an escape, and 00.
+/// stands for DATA 0 behind an escape, 00, and 11.
 pub fn each_short() -> Vec<Vec<u8>> {
-    const ALPHABET: [u8; 8] = [FLAG, ESCAPE, DATA, 0xC0, DACK, 0xB0, DATA ^ 0x20, 0x00];
-    let mut all = vec![vec![]];
-    let mut longest = all.clone();
-    for _ in 0..5 {
-        longest = longest
-            .iter()
-            .flat_map(|s| ALPHABET.map(|x| [&s[..], &[x]].concat()))
-            .collect();
-        all.extend(longest.clone());
-    }
-    all
+    let data = [DATA, 0xC0, DATA ^ 0x20];
+    each(
+        &[&[FLAG, ESCAPE, DACK, 0xB0, 0x00, 0x11], &data[..]].concat(),
+        5,
+    )
 }
 
 /// Every sequence of up to four segments that bear on repeats: DATA of two numbers, one of them of the longest payload and of one
-/// octet more, DACK, RESET, and each report that is no frame but a long one.
+/// octet more, DACK, RESET, each report that is no frame but a long one, and at level 1 a DATA with flow control in it.
 pub fn each_sequence() -> Vec<Vec<u8>> {
     let frame = |data: &[u8]| qaft::body(0, data);
     let segments = [
@@ -113,6 +107,7 @@ pub fn each_sequence() -> Vec<Vec<u8>> {
         vec![DATA | 4, 0x00],
         vec![DATA | 4, ESCAPE],
         vec![DATA | 4],
+        vec![DATA | 3, 0x11, 0xBD],
     ];
     let mut all = vec![vec![FLAG]];
     let mut longest = all.clone();
@@ -126,11 +121,12 @@ pub fn each_sequence() -> Vec<Vec<u8>> {
     all
 }
 
-/// A capture of which every count is over 0.
+/// A capture of which every count is over 0 at level 1.
 pub fn each_count() -> Vec<u8> {
     let frame = |data: &[u8]| [&qaft::body(0, data)[..], &[FLAG]].concat();
     let (data, dack) = (frame(&[DATA]), frame(&[DACK]));
     let others = [0x41, 0xBE, FLAG, 0x41, FLAG, 0x41, ESCAPE, FLAG];
+    let skipped = [0x11, 0x13, FLAG, 0x13, 0x41, 0xBF, FLAG];
     let long = [0; MAX_DATA + 2];
     [
         &[0x41, FLAG],
@@ -138,6 +134,7 @@ pub fn each_count() -> Vec<u8> {
         &data,
         &dack,
         &others,
+        &skipped,
         &long,
         &[FLAG, 0x41],
     ]

@@ -1,5 +1,6 @@
 //! The program line_sheet, run as a process over files of captures: its standard output is the second program's sheet, and its
 //! standard error names the files that it did not count.
+use super::super::flow;
 use super::super::process::{program, run, Run};
 use super::super::tally::{hex, Tally};
 use super::files::{across_reads, all_examples, each_refusal, set, Entry, Files, PIPE, READ};
@@ -55,6 +56,7 @@ fn expected(level: u8, entries: &[Entry], tally: &mut Tally) -> Seen {
                 tally.count(SAME_LINE, again.into());
                 tally.count(SEVERAL_READS, (capture.len() > READ).into());
                 tally.count(THROUGH_PIPE, (entry.file == PIPE).into());
+                flow::count(level, capture, tally);
                 let number = sheet::tally(level, capture, line, &mut table);
                 tally.number(number);
                 number == 0
@@ -212,13 +214,14 @@ pub fn compare(rng: &Rng, count: u64, tally: &mut Tally) {
     for name in [SAME_LINE, SEVERAL_READS, THROUGH_PIPE, NO_NUMBER, NO_FILE] {
         tally.count(name, 0);
     }
+    flow::came_up(&[0, 1], tally);
     let files = Files::new();
     failures(&files, tally);
     for level in [0, 1] {
         let mut list = |entries: Vec<Entry>| one(rng, entries.len() as u64, level, &entries, tally);
         list(Vec::new());
         list(all_examples());
-        list(across_reads(rng, &files));
+        list(across_reads(rng, level, &files));
         list(each_refusal(rng, &files));
     }
     let mut left = count;
