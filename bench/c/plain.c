@@ -5,7 +5,7 @@ enum { FLAG = 0x7E, ESCAPE = 0x7D, MASK = 0x20, LONGEST = 2561 };
 
 static bool escaped(uint8_t level, uint8_t x)
 {
-    return x == FLAG || x == ESCAPE || (level == 1 && (x == 0x11 || x == 0x13));
+    return x == FLAG || x == ESCAPE || plain_flow_control(level, x);
 }
 
 static uint8_t *put(uint8_t level, uint8_t x, uint8_t *to)
@@ -60,7 +60,7 @@ struct plain_answer plain_qaft_read(struct plain_reader r, const uint8_t *chunk,
             r = (struct plain_reader){.level = r.level, .flag = true};
             if (number != 0)
                 return (struct plain_answer){number, i + 1, data, r};
-        } else if (r.flag) {
+        } else if (r.flag && !plain_flow_control(r.level, x)) {
             if (r.pending) {
                 x ^= MASK;
                 r.pending = false;

@@ -7,6 +7,9 @@
 #include <stddef.h>
 #include <stdint.h>
 
+/* An octet that is escaped at level 1 and, where it stands raw on such a line, skipped. */
+static inline bool plain_flow_control(uint8_t level, uint8_t x) { return level == 1 && (x == 0x11 || x == 0x13); }
+
 struct plain_reader {
     uint8_t level;
     bool flag;
@@ -26,7 +29,7 @@ size_t plain_qaft_write(uint8_t level, bool at_flag, const uint8_t *octets, size
 struct plain_answer plain_qaft_read(struct plain_reader reader, const uint8_t *chunk, size_t length, uint8_t *store);
 size_t plain_kiss_write(bool at_flag, const uint8_t *payload, size_t length, uint8_t *out, size_t room);
 hasfandur_kiss_answer plain_kiss_read(hasfandur_kiss_reader reader, const uint8_t *chunk, size_t length, uint8_t *store);
-hasfandur_counts plain_sheet_count(const uint8_t *capture, size_t length);
+hasfandur_counts plain_sheet_count(uint8_t level, const uint8_t *capture, size_t length);
 hasfandur_dlc_outcome plain_dlc_timer(hasfandur_dlc_link link, uint8_t *reply, size_t reply_length);
 hasfandur_reading plain_afp_read(const uint8_t *frame, size_t length);
 hasfandur_written plain_afp_write(uint8_t protocol, const uint8_t *stations, size_t stations_length, size_t next,

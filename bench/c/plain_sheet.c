@@ -1,11 +1,13 @@
-/* What a capture counts for the line sheet, in plain C, by the header's types: octet by octet, in one pass. Counts don't stop. */
+/* What a capture counts for the line sheet, in plain C, by the header's types: octet by octet, in one pass. Counts don't stop.
+ * The level is trusted. */
 #include "plain.h"
 
 enum { FLAG = 0x7E, ESCAPE = 0x7D, MASK = 0x20, LONGEST = HASFANDUR_QAFT_MAX_SEGMENT, NONE = 16 };
 
-/* The segment so far: its octets on the line, and what a reader knows of it. */
+/* The segment so far: its octets on the line, those of them that are skipped, and what a reader knows of it. */
 struct segment {
     size_t raw;
+    size_t skipped;
     size_t count;
     bool pending;
     uint8_t sum;
@@ -36,16 +38,21 @@ static void add_packet(hasfandur_counts *c, uint8_t first, size_t length, uint8_
     }
 }
 
+/* A segment between two flags. */
 static void add_segment(hasfandur_counts *c, const struct segment *s, uint8_t first, uint8_t *last)
 {
-    int report = judge(s);
-    c->counts[HASFANDUR_SHEET_IN_SEGMENTS] += s->raw;
+    int report;
+    c->counts[HASFANDUR_SHEET_SKIPPED] += s->skipped;
+    if (s->raw == s->skipped)
+        return;
+    report = judge(s);
+    c->counts[HASFANDUR_SHEET_IN_SEGMENTS] += s->raw - s->skipped;
     c->counts[report]++;
     if (report == HASFANDUR_SHEET_FRAMES)
         add_packet(c, first, s->count - 1, last);
 }
 
-hasfandur_counts plain_sheet_count(const uint8_t *capture, size_t length)
+hasfandur_counts plain_sheet_count(uint8_t level, const uint8_t *capture, size_t length)
 {
     hasfandur_counts c = {0};
     struct segment s = {0};
@@ -55,12 +62,16 @@ hasfandur_counts plain_sheet_count(const uint8_t *capture, size_t length)
         if (x == FLAG) {
             if (c.counts[HASFANDUR_SHEET_FLAGS]++ == 0)
                 c.counts[HASFANDUR_SHEET_BEFORE] = s.raw;
-            else if (s.raw != 0)
+            else
                 add_segment(&c, &s, first, &last);
             s = (struct segment){0};
             continue;
         }
         s.raw++;
+        if (plain_flow_control(level, x)) {
+            s.skipped++;
+            continue;
+        }
         if (s.pending) {
             x ^= MASK;
             s.pending = false;

@@ -1,4 +1,5 @@
 //! What the rows of QAFT and KISS share: data for many frames, turns over them, and turns over a line.
+use second::qaft::FLOW_CONTROL;
 use second::reader::Answer;
 use second::rng::Rng;
 
@@ -32,6 +33,18 @@ pub fn line(
         line.extend(&out[..n]);
     }
     line
+}
+
+/// The line with flow control strewn in, raw and at any place: one octet in 64 of what comes out.
+pub fn strewn(line: &[u8]) -> Vec<u8> {
+    let (rng, mut strewn) = (Rng::new(8), Vec::new());
+    for &x in line {
+        while rng.once_in(64) {
+            strewn.push(rng.pick(&FLOW_CONTROL));
+        }
+        strewn.push(x);
+    }
+    strewn
 }
 
 /// Reads a line in chunks of a size; shows each answer, and the store as the answer left it.

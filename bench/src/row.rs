@@ -71,7 +71,7 @@ impl Row {
         let timed = self.contenders.iter().zip(&best);
         let rivals = timed.clone().filter(|(other, _)| other.rival);
         let others = rivals.map(|(_, time)| *time).fold(f64::INFINITY, f64::min);
-        print!("{:<44} ns/{:<6}", self.what, self.unit);
+        print!("{:<54} ns/{:<6}", self.what, self.unit);
         for (Contender { name, .. }, time) in timed {
             print!("  {name} {time:.3}");
         }

@@ -13,11 +13,15 @@ use second::sheet::{self, COUNTS};
 /// The data octets of a capture are about this many: what a turn learns of a short one helps it in the next (kiss.rs).
 const OCTETS: usize = 1 << 20;
 
+// a line each, the longer ones too
+#[rustfmt::skip]
 pub const ROWS: &[fn() -> Row] = &[
-    || row("sheet count, frames of 2,560", 2560, Rng::octet),
-    || row("sheet count, frames of 2,560, 50 % escapes", 2560, escaped),
-    || row("sheet count, frames of 20", 20, Rng::octet),
-    || row("sheet count, frames of 20, 50 % escapes", 20, escaped),
+    || row("sheet count, frames of 2,560", 0, 2560, Rng::octet),
+    || row("sheet count, frames of 2,560, 50 % escapes", 0, 2560, escaped),
+    || row("sheet count, frames of 20", 0, 20, Rng::octet),
+    || row("sheet count, frames of 20, 50 % escapes", 0, 20, escaped),
+    || row("sheet count at level 1, frames of 2,560", 1, 2560, Rng::octet),
+    || row("sheet count at level 1, frames of 20", 1, 20, Rng::octet),
 ];
 
 /// Every second octet is one that is escaped.
@@ -42,19 +46,23 @@ fn weighed(counts: [u64; COUNTS]) -> usize {
     each.map(|(count, weight)| count as usize * weight).sum()
 }
 
-fn row(what: &'static str, size: usize, octet: fn(&Rng) -> u8) -> Row {
+/// Plain C must count the line with flow control strewn in as ours does, too, before a row is timed.
+fn row(what: &'static str, level: u8, size: usize, octet: fn(&Rng) -> u8) -> Row {
     let packets = frames::payloads(OCTETS, size, |rng, n| packet(rng, n, octet));
     let line = frames::line(&[FLAG], &packets, |d, out| {
-        second::qaft::write(0, true, d, out).length
+        second::qaft::write(level, true, d, out).length
     });
+    let strewn = frames::strewn(&line);
+    let counts = archive::count(level, &strewn).counts;
+    assert_eq!(others::count(level, &strewn), counts, "{what}: strewn in");
     let (ours, by_second, plain) = (line.clone(), line.clone(), line.clone());
-    let reading = frames::reading(&line, usize::MAX, State::fresh(0), qaft::ours);
+    let reading = frames::reading(&line, usize::MAX, State::fresh(level), qaft::ours);
     Row::new(what, "octet", line.len(), move || {
-        weighed(archive::count(0, &ours).counts)
+        weighed(archive::count(level, &ours).counts)
     })
     .beside("second", move || {
-        weighed(sheet::count(0, &by_second).counts)
+        weighed(sheet::count(level, &by_second).counts)
     })
-    .beside("plain C", move || weighed(others::count(&plain)))
+    .beside("plain C", move || weighed(others::count(level, &plain)))
     .part("our reader alone", reading)
 }

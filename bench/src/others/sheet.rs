@@ -8,9 +8,9 @@ struct RawCounts {
 }
 
 extern "C" {
-    fn plain_sheet_count(capture: *const u8, length: usize) -> RawCounts;
+    fn plain_sheet_count(level: u8, capture: *const u8, length: usize) -> RawCounts;
 }
 
-pub fn count(capture: &[u8]) -> [u64; COUNTS] {
-    unsafe { plain_sheet_count(capture.as_ptr(), capture.len()) }.counts
+pub fn count(level: u8, capture: &[u8]) -> [u64; COUNTS] {
+    unsafe { plain_sheet_count(level, capture.as_ptr(), capture.len()) }.counts
 }

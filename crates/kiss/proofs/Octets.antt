@@ -33,18 +33,18 @@ escaped-octet x e =
     isEscaped-ind (λ (y : ℕ). (eqb (behind y) flag ≡ false) × (standsFor (behind y) ≡ y) × (isBadEscape (behind y) ≡ false)) x e
     (refl, refl, refl) (refl, refl, refl)
 
--- the two octets and no others are the two
-no-others : (a b : Bool) → (a || (b || false)) ≡ (a || b)
-no-others true b = refl
-no-others false true = refl
-no-others false false = refl
+-- the two octets twice are the two
+twice : (a b : Bool) → (a || (b || (a || b))) ≡ (a || b)
+twice true b = refl
+twice false true = refl
+twice false false = refl
 
 escapes-alike : Alike (writingOf kiss.escapes) writing
 unfolding kiss.escapes escapes.isEscaped isEscaped escapes.behind behind
 escapes-alike = record {
   flag-is = refl;
   escape-is = refl;
-  escapes-is = λ x. no-others (eqb x flag) (eqb x escapeOctet);
+  escapes-is = λ x. twice (eqb x flag) (eqb x escapeOctet);
   behind-is = λ x e. by (eqb x flag) (eqb x escapeOctet);
 }
   where

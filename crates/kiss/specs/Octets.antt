@@ -1,6 +1,6 @@
 -- KISS: octets on the line, and the type octet. Cited by the writer's and the reader's definitions. Assumes nothing.
 use Prim.Native.Nat.{ℕ, _/_, _%_}
-use mathlib.Core.Bool.{Bool, false, cond, not, _&&_, _||_}
+use mathlib.Core.Bool.{Bool, true, cond, not, _&&_, _||_}
 use mathlib.Core.Path.{_≡_, refl}
 use lib.Dec.{eqb}
 use Rattle.escapes.specs.declared.Escapes.{Escapes}
@@ -37,12 +37,12 @@ isBadEscape y = not (eqb y escapedFlag || eqb y escapedEscape)
 abbrev pub writing : Writing
 writing = record { flag = flag; escape = escapeOctet; escapes = isEscaped; behind = behind }
 
--- the same as flag, escape and others, each with what stands for it behind the escape; there are no others
+-- the same as four octets, each with what stands for it behind the escape; there are two, and they stand there twice
 unfoldable pub escapes : Escapes
 escapes = record {
   flag = flag;
   escape = escapeOctet;
-  others = false;
+  others = true;
   third = flag;
   fourth = escapeOctet;
   «behind_flag» = escapedFlag;

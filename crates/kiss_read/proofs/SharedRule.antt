@@ -19,7 +19,7 @@ skips-none : (x : ℕ) → isSkipped rule x ≡ false
 unfolding isSkipped isEscaped escapes
 skips-none x = go (eqb x flag) (eqb x escapeOctet)
   where
-    go : (f e : Bool) → cond f false (cond e false (f || (e || false))) ≡ false
+    go : (f e : Bool) → cond f false (cond e false (f || (e || (f || e)))) ≡ false
     go true e = refl
     go false true = refl
     go false false = refl
@@ -30,7 +30,7 @@ unfolding partnerOf isPartner standsFor escapes kiss.standsFor
 partner-stands y = go (eqb y escapedFlag) (eqb y escapedEscape)
   where
     go : (a b : Bool)
-        → cond (a || (b || false)) (cond a flag (cond b escapeOctet (cond a flag escapeOctet))) y
+        → cond (a || (b || (a || b))) (cond a flag (cond b escapeOctet (cond a flag escapeOctet))) y
         ≡ cond a flag (cond b escapeOctet y)
     go true b = refl
     go false true = refl
@@ -40,7 +40,7 @@ pair-bad : (y : ℕ) → isBadPair rule y ≡ isBadEscape y
 unfolding isBadPair isPartner escapes isBadEscape
 pair-bad y = go (eqb y escapedFlag) (eqb y escapedEscape)
   where
-    go : (a b : Bool) → not (a || (b || false)) ≡ not (a || b)
+    go : (a b : Bool) → not (a || (b || (a || b))) ≡ not (a || b)
     go true b = refl
     go false true = refl
     go false false = refl
