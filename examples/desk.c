@@ -108,9 +108,13 @@ static void read_cases(void)
     /* the paper's example, cut behind a 7D */
     static const uint8_t line[] = {0xAA, 0x7E, 0x40, 0x41, 0x7F, 0x7E, 0x10, 0x7D, 0x7E, 0x7E, 0x05, 0x7E, 0x33};
     static const uint8_t pair[] = {0x7E, 0x7D, 0x5E, 0x82, 0x7E, 0x41, 0xBE, 0x7E};
+    /* 13 and 11 behind a flag, between 7D and its partner, and alone between two flags */
+    static const uint8_t strewn[] = {0x7E, 0x13, 0x7D, 0x11, 0x31, 0xEF, 0x7E, 0x11, 0x7E};
     static uint8_t buffer[HASFANDUR_QAFT_MAX_SEGMENT];
     read_case("read the paper's line", 0, line, 8, sizeof line);
     read_case("read 7D 5E 82, cut behind 7D", 1, pair, 2, sizeof pair);
+    read_case("read 11 at level 1, flow control put in", 1, strewn, 4, sizeof strewn);
+    read_case("the same octets at level 0", 0, strewn, 4, sizeof strewn);
 
     /* refusals 6, 4, 5, in this order */
     printf("read refused\n");

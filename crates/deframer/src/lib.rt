@@ -94,12 +94,12 @@ impl Rule {
                 match action {
                     Action::Advance(next) => {
                         let t = pairs::take(self, next, &chunk[i..], buffer);
-                        s = t.state;
+                        s = by_fields(t.state);
                         i += t.taken;
                     }
                     Action::Store(next, at, octet) => {
                         buffer[at] = octet;
-                        s = next;
+                        s = by_fields(next);
                     }
                     Action::Close => {
                         return Scanned {
@@ -253,6 +253,19 @@ impl Rule {
             return true;
         }
         false
+    }
+}
+
+// The same state, field by field: of a copy at once the compiler moves what lies between the fields too, through memory.
+fn by_fields(s: State) -> State
+    ensures { λ r. ⌜ r ≡ s ⌝ }
+{
+    State {
+        synced: s.synced,
+        pending: s.pending,
+        bad: s.bad,
+        count: s.count,
+        check: s.check,
     }
 }
 

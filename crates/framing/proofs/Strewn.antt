@@ -2,7 +2,7 @@
 use Prim.Native.Nat.{ℕ}
 use mathlib.Core.Bool.{Bool, true, false, cond}
 use mathlib.Core.List.{List, [], _∷_, _++_}
-use mathlib.Core.Path.{_≡_, refl, ap, _∙_}
+use mathlib.Core.Path.{_≡_, refl, ap}
 use Rattle.common.proofs.Each.{Each}
 use Rattle.framing.specs.Reports.{unskipped}
 use Rattle.framing.specs.Rules.{Rules}

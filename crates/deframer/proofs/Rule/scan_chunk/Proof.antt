@@ -117,6 +117,9 @@ part-take-end c = search needs
 take-requires : tie.Need-take-requires Inv-loop μ-loop
 take-requires c κs = omega (arith, run-inv (c .before .before .before .before .before .before .before .before) .1, c .before .before .before .before .before .before .before .before .before .before .before .before .before .before .before .before .before .before .before .pre)
 
+by-fields-requires : tie.Need-by-fields-requires Inv-loop μ-loop
+by-fields-requires c κs = tt
+
 -- the octets that are taken behind a step are there
 within : (c : tie.After-take Inv-loop μ-loop)
     → c .before .before .before .before .before .before .before .before .before .before .before .before .before .before .before .before .before .loop .i + c .before .before .before .before .before .before .before .before .before .before .before .before .before .before .run-length .result + 1 + c .take .result .taken ≤ length (c .before .before .before .before .before .before .before .before .before .before .before .before .before .before .before .before .before .before .before .before .args .chunk .now)
@@ -141,9 +144,10 @@ loop-again c =
     let a = c .before .before .before .before .before .before .before .before .before .before .before .before .before .before .before .before .before .before .before .before .before .before .before .before .args in (
       within (c .before .before .before .before),
       t .kept .1 .1 .1 .0 ∙ u .1,
-      u .2
+      rw (c .before .by-fields .ensures)
+          (u .2
           ∙ scan-advance _ (view (w .result)) _ _ _ (d .before .before .if1 .taken) _ (taken-action d _ (p .before .action .given .1))
-          ∙ ahead-turn (a .self) (a .chunk .now) _ _ _ _ _ _ (t .ensures .1),
+          ∙ ahead-turn (a .self) (a .chunk .now) _ _ _ _ _ _ (t .ensures .1)),
     )
 
 enum-known-action-2 : tie.Need-enum-known-action-2 Inv-loop μ-loop
@@ -157,16 +161,24 @@ slice-write-buffer c =
     let index = step-index _ _ _ _ _ _ (sym (d .step .ensures) ∙ c .before .action2 .given .1) in
     omega (arith, index, u .1, k .before .before .before .before .before .before .before .before .before .before .before .pre)
 
+by-fields-requires-2 : tie.Need-by-fields-requires-2 Inv-loop μ-loop
+by-fields-requires-2 c κs = tt
+
 loop-less-2 : tie.Need-loop-less-2 Inv-loop μ-loop
 loop-less-2 c = search needs
 
 loop-again-2 : tie.Need-loop-again-2 Inv-loop μ-loop
 loop-again-2 c =
-    let d = c .before .before .before in
+    let q = c .before in
+    let d = q .before .before .before in
     let k = d .before .before .before in
     let u = run-inv k in
-    let w = k .before .before .with-run in
-    (omega arith, simp length-set (u .1), u .2 ∙ scan-store _ (view (w .result)) _ _ _ (d .before .before .if1 .taken) _ _ _ (taken-action d _ (c .before .action2 .given .1)))
+    let w = k .before .before .with-run in (
+      omega arith,
+      simp length-set (u .1),
+      rw (c .by-fields2 .ensures)
+          (u .2 ∙ scan-store _ (view (w .result)) _ _ _ (d .before .before .if1 .taken) _ _ _ (taken-action d _ (q .before .action2 .given .1))),
+    )
 
 enum-told : tie.Need-enum-told Inv-loop μ-loop
 enum-told c = search needs
@@ -232,11 +244,13 @@ scan-chunk-spec =
     part-take-start
     part-take-end
     take-requires
+    by-fields-requires
     add-i-2
     loop-less
     loop-again
     enum-known-action-2
     slice-write-buffer
+    by-fields-requires-2
     loop-less-2
     loop-again-2
     enum-told
