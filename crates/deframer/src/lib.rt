@@ -23,8 +23,9 @@ pub const REGISTER: u8 = 1;
 
 pub const FIRST: u8 = 2;
 
-// How a line is read. `mask`: what an octet behind the escape is combined with, by exclusive or; 0: there is no mask, and such an octet
-// stands for the one that is escaped so, or for itself. `strict`: whether a pair is bad that stands for no octet that is escaped. `cap`: how many octets of a segment are stored. `check`: the running check.
+// How a line is read. `mask`: what an octet behind the escape is combined with, by exclusive or; 0: there is no mask, and such an
+// octet stands for the one that is escaped so, or for itself. `strict`: whether a pair is bad that stands for no octet that is
+// escaped. `cap`: how many octets of a segment are stored. `check`: the running check.
 pub struct Rule {
     pub escapes: Escapes,
     pub mask: u8,

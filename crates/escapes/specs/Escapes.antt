@@ -1,7 +1,7 @@
 -- Which octets of a flagged line are escaped, and what stands for each behind the escape. Cited by the contracts of writers and readers. Assumes
 -- nothing.
 --
---   isEscaped e x   whether the octet x is escaped: the flag, the escape, and, if so, two others
+--   isEscaped e x   whether the octet x is escaped: the flag, the escape, and two others where `others` says so
 --   behind e x      what stands behind the escape for it
 --   isPartner e y   whether y, behind the escape, stands for one of them
 --   standsFor e y   for which
