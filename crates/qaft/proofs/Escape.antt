@@ -46,7 +46,11 @@ flow-control-no-flag level x e =
     ⊎-elim (λ q. rw (eqb-true x xon q)) (λ q. rw (eqb-true x xoff q))
     (or-true (eqb x xon) (eqb x xoff) (and-true-right (eqb level 1) (eqb x xon || eqb x xoff) e))
 
--- the escape is no flow control
+-- neither the flag nor the escape is flow control
+pub flag-no-flow-control : (level : ℕ) → isFlowControl level flag ≡ false
+unfolding isFlowControl
+flag-no-flow-control level = neither (eqb level 1)
+
 pub escape-no-flow-control : (level : ℕ) → isFlowControl level escapeOctet ≡ false
 unfolding isFlowControl
 escape-no-flow-control level = neither (eqb level 1)
