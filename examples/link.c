@@ -115,7 +115,7 @@ static void exchange(end *here, end *there)
     arrival(here, there->reply, 1);
 }
 
-/* Seven payloads are queued, an eighth is not; 256 octets pass, 257 do not; the timer fills the reply buffer. */
+/* As many payloads are queued as there are slots, and one more is not; 256 octets pass, 257 do not; the timer fills the reply buffer. */
 static void limits(end *e)
 {
     static uint8_t big[HASFANDUR_DLC_MAX_PAYLOAD + 1];

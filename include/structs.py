@@ -17,7 +17,7 @@ STRUCTS = [
     ("hasfandur_dlc_queued", ["dlc_queue::Payload"], {"len": "length"}),
     ("hasfandur_dlc_queue", ["dlc_queue::Queue"], {}),
     ("hasfandur_dlc_link", ["dlc_plain::PlainLink"], {}),
-    ("hasfandur_dlc_answer", ["dlc::Answer"], {"code": "number"}),
+    ("hasfandur_dlc_answer", ["dlc_answer::Answer"], {"code": "number"}),
     ("hasfandur_dlc_outcome", ["dlc_plain::PlainOutcome"], {}),
     ("hasfandur_part", ["afp::Part"], {}),
     ("hasfandur_reading", ["afp::Reading"], {}),

@@ -66,7 +66,7 @@ fn by_second() -> impl FnMut() -> usize {
 
 fn timer() -> Row {
     let ours = by_value(|link, reply| link.timer(reply));
-    Row::new("link's timer, 7 payloads of 256", "event", EVENTS, ours)
+    Row::new("link's timer, a full queue of 256", "event", EVENTS, ours)
         .beside("second", by_second())
         .beside("plain C", by_value(others::dlc_timer))
 }

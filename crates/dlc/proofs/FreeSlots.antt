@@ -3,9 +3,9 @@
 use mathlib.Core.Path.{_≡_, sym, _∙_}
 use mathlib.Core.List.{List}
 use Prim.Native.Nat.{ℕ}
-use Rattle.dlc.specs.declared.Answer.{Answer}
-use Rattle.dlc.specs.Model.{Model}
-use Rattle.dlc.specs.Events.{Effect}
+use Rattle.dlc_table.specs.Model.{Model}
+use Rattle.dlc_table.specs.Events.{Effect}
+use Rattle.dlc_answer.specs.declared.Answer.{Answer}
 use Rattle.dlc.specs.Calls.{Meets, StartCall, TimerCall, PayloadCall, ArrivalCall}
 
 -- two links and answers given back, with the reply buffers after them, that nobody can tell apart but by free slots

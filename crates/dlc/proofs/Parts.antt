@@ -7,31 +7,35 @@ use lib.ListN.{length}
 use lib.Dec.{ltb, eqb}
 use mir.Val.{Val}
 use denote.Laws.{Is}
-use borrow.Author.Tests.{lt-ltb, le-ltb, ltb-true}
+use borrow.Author.Tests.{lt-ltb, le-ltb, ltb-true, eq-eqb}
 use Rattle.dlc_packet.specs.Numbers.{modulus}
-use Rattle.dlc_queue.specs.Queue.{payloads, formed}
+use Rattle.dlc_table.specs.declared.State.{State}
+use Rattle.dlc_table.specs.declared.State.the-variants.{Idle, Reset, Data, Wait}
+use Rattle.dlc_table.specs.Events.{isOpen}
+use Rattle.dlc_queue.specs.Queue.{payloads, held, atRest, formed}
 use Rattle.dlc_queue.proofs.Short.{both}
-use Rattle.dlc_queue.proofs.Slots.{length-owned}
-use Rattle.dlc.specs.declared.State.{State}
-use Rattle.dlc.specs.declared.State.the-variants.{Idle, Reset, Data, Wait}
+use Rattle.dlc_queue.proofs.Slots.{length-owned, rest-held}
 use Rattle.dlc.specs.declared.Link.{Link}
-use Rattle.dlc.specs.Model.{stateFits, wellFormed}
-use Rattle.dlc.specs.Events.{isOpen}
+use Rattle.dlc.specs.View.{stateFits, wellFormed}
 use Rattle.dlc.proofs.Link as L
+
+-- whether the link's queue and numbers go with a state
+abbrev pub fits : Link → State → Bool
+fits l s = stateFits s (held (l .queue)) (atRest (l .queue)) (l .base) (l .expected)
 
 pub record Parts (l : Link) : Type 0 where
   pub queue : formed (l .queue) ≡ true
   pub base : l .base < modulus
   pub expected : l .expected < modulus
-  pub state : stateFits (l .state) (l .queue .count) (l .base) (l .expected) ≡ true
+  pub state : fits l (l .state) ≡ true
 
 pub parts : (l : Link) → wellFormed l ≡ true → Parts l
 unfolding wellFormed
 parts l e =
-    let fits : Bool = stateFits (l .state) (l .queue .count) (l .base) (l .expected) in
-    let a = both (formed (l .queue)) (ltb (l .base) modulus && (ltb (l .expected) modulus && fits)) e in
-    let b = both (ltb (l .base) modulus) (ltb (l .expected) modulus && fits) (a .1) in
-    let c = both (ltb (l .expected) modulus) fits (b .1) in
+    let f : Bool = fits l (l .state) in
+    let a = both (formed (l .queue)) (ltb (l .base) modulus && (ltb (l .expected) modulus && f)) e in
+    let b = both (ltb (l .base) modulus) (ltb (l .expected) modulus && f) (a .1) in
+    let c = both (ltb (l .expected) modulus) f (b .1) in
     record { queue = a .0; base = ltb-true _ _ (b .0); expected = ltb-true _ _ (c .0); state = c .1 }
 
 pub whole : (l : Link) → Parts l → wellFormed l ≡ true
@@ -52,25 +56,27 @@ module _ (l : Link) where
   unfolding wellFormed
   bad-expected e h k = rw (e, lt-ltb _ _ h, le-ltb _ _ k)
 
-  pub by-state : formed (l .queue) ≡ true → l .base < modulus → l .expected < modulus
-      → wellFormed l ≡ stateFits (l .state) (l .queue .count) (l .base) (l .expected)
+  pub by-state : formed (l .queue) ≡ true → l .base < modulus → l .expected < modulus → wellFormed l ≡ fits l (l .state)
   unfolding wellFormed
   by-state e h k = rw (e, lt-ltb _ _ h, lt-ltb _ _ k)
 
 -- in an open state the expected number is free
-pub open-fits : (s : State) (n b e e′ : ℕ) → isOpen s ≡ true → stateFits s n b e ≡ true → stateFits s n b e′ ≡ true
-open-fits Idle n b e e′ h f = absurd (false≢true h)
-open-fits Reset n b e e′ h f = absurd (false≢true h)
-open-fits Data n b e e′ h f = f
-open-fits Wait n b e e′ h f = f
+pub open-fits : (s : State) (n : ℕ) (r : Bool) (b e e′ : ℕ) → isOpen s ≡ true → stateFits s n r b e ≡ true → stateFits s n r b e′ ≡ true
+open-fits Idle n r b e e′ h f = absurd (false≢true h)
+open-fits Reset n r b e e′ h f = absurd (false≢true h)
+open-fits Data n r b e e′ h f = f
+open-fits Wait n r b e e′ h f = f
 
--- DLIDLE goes over to DLRESET, and DLRESET to DLDATA, with the same queue and numbers
-pub idle-fits : (s : State) (n b e : ℕ) → s ≡ Idle → stateFits s n b e ≡ true → stateFits Reset n b e ≡ true
-idle-fits s n b e h f = rw h at f
+module _ (l : Link) where
+  -- DLIDLE goes over to DLRESET, and DLRESET to DLDATA, with the same queue and numbers
+  pub idle-fits : {s : State} → s ≡ Idle → fits l s ≡ true → fits l Reset ≡ true
+  idle-fits h f = rw h at f
 
-pub reset-fits : (s : State) (n b e : ℕ) → s ≡ Reset → stateFits s n b e ≡ true → stateFits Data n b e ≡ true
-reset-fits s n b e h f = both (eqb n 0) (eqb b 0 && eqb e 0) (rw h at f) .0
+  pub reset-fits : {s : State} → s ≡ Reset → fits l s ≡ true → fits l Data ≡ true
+  reset-fits h f =
+      let rests : atRest (l .queue) ≡ true = both (atRest (l .queue)) (eqb (l .base) 0 && eqb (l .expected) 0) (rw h at f) .0 in
+      eq-eqb _ _ (rest-held (l .queue) rests)
 
--- as many payloads as the queue counts
-pub length-queue : (l : Link) (vs : List Val) → Is L.the-row l vs → wellFormed l ≡ true → length (payloads (l .queue)) ≡ l .queue .count
-length-queue l vs g e = length-owned (l .queue) _ (g .1 .1 .1 .0) (parts l e .queue)
+  -- as many payloads as the queue counts
+  pub length-queue : (vs : List Val) → Is L.the-row l vs → wellFormed l ≡ true → length (payloads (l .queue)) ≡ held (l .queue)
+  length-queue vs g e = length-owned (l .queue) _ (g .1 .1 .1 .0) (parts l e .queue)

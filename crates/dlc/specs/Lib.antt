@@ -1,5 +1,3 @@
 pub mod Limits
-pub mod Answers
-pub mod Model
-pub mod Events
+pub mod View
 pub mod Calls

@@ -2,25 +2,26 @@
 // Each takes any link value, and any reply buffer; where it refuses, the link and the buffer are as they came.
 ghost use mathlib.Core.Path.{_≡_};
 ghost use Rattle.common.specs.Refusals.{guarded};
-ghost use Rattle.dlc.specs.Answers.{done};
-ghost use Rattle.dlc.specs.Model.{view};
-ghost use Rattle.dlc.specs.Events.{callRefusals};
+ghost use Rattle.dlc_table.specs.Answers.{done};
+ghost use Rattle.dlc_table.specs.Events.{callRefusals};
+ghost use Rattle.dlc_queue.specs.Queue.{slots};
+ghost use Rattle.dlc.specs.View.{view};
 ghost use Rattle.dlc.specs.Calls.{StartCall, TimerCall, PayloadCall, ArrivalCall};
-use crate::BAD_LINK;
-use crate::BAD_PACKET;
-use crate::DONE;
 use crate::Link;
-use crate::NO_ENTRY;
-use crate::NOT_OPEN;
 use crate::Outcome;
-use crate::PAYLOAD_TOO_LONG;
-use crate::QUEUE_FULL;
-use crate::REPLY_TOO_SMALL;
-use crate::State;
 use crate::is_open;
-use crate::send_one;
+use crate::send_control;
 use crate::silent;
 use dlc_packet::Kind;
+use dlc_table::BAD_LINK;
+use dlc_table::BAD_PACKET;
+use dlc_table::DONE;
+use dlc_table::NO_ENTRY;
+use dlc_table::NOT_OPEN;
+use dlc_table::PAYLOAD_TOO_LONG;
+use dlc_table::QUEUE_FULL;
+use dlc_table::REPLY_TOO_SMALL;
+use dlc_table::State;
 
 impl Link {
     // The upper layer starts the link.
@@ -54,14 +55,14 @@ impl Link {
         let s = self.state;
         match s {
             State::Idle => silent(self, NO_ENTRY),
-            State::Reset => send_one(self, DONE, false, false, dlc_packet::RESET, reply),
+            State::Reset => send_control(self, DONE, false, false, dlc_packet::RESET, reply),
             State::Data => silent(self, NO_ENTRY),
             State::Wait => self.send_all(reply),
         }
     }
 
     // The upper layer hands a payload down.
-    pub fn payload(mut self, p: &[u8], reply: &mut [u8]) -> Outcome
+    pub fn payload(self, p: &[u8], reply: &mut [u8]) -> Outcome
         ensures { λ r. ⌜ PayloadCall view self (now (p .entry)) (now (reply .entry)) (now (reply .exit)) (r .link) (r .answer) ⌝ }
     {
         let c = self.refusal(reply.len());
@@ -74,12 +75,11 @@ impl Link {
         let s = self.state;
         if is_open(s) {
             let q = self.queue;
-            let n = q.count;
+            let n = q.len();
             if Link::SLOTS <= n {
                 return silent(self, QUEUE_FULL);
             }
-            self = self.with_payload(p);
-            silent(self, DONE)
+            self.queue(p, reply)
         } else {
             silent(self, NOT_OPEN)
         }
@@ -105,7 +105,7 @@ impl Link {
 
     // The refusal that all calls share: BAD_LINK, then REPLY_TOO_SMALL; DONE where neither applies.
     fn refusal(self, room: usize) -> u8
-        ensures { λ r. ⌜ r ≡ guarded (callRefusals (view self) room) (λ n. n) done ⌝ }
+        ensures { λ r. ⌜ r ≡ guarded (callRefusals slots (view self) room) (λ n. n) done ⌝ }
     {
         if self.well_formed() {
             if room < Link::REPLY_SIZE {

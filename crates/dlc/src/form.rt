@@ -1,9 +1,9 @@
 // Whether a value of the link type is a link.
 ghost use mathlib.Core.Path.{_≡_};
-ghost use Rattle.dlc.specs.Model.{stateFits, wellFormed};
+ghost use Rattle.dlc.specs.View.{stateFits, wellFormed};
 use crate::Link;
-use crate::State;
 use dlc_packet::MODULUS;
+use dlc_table::State;
 
 impl Link {
     // Whether this is a link: what the queue, the numbers and the state may be, and how they go together.
@@ -21,31 +21,32 @@ impl Link {
                 return false;
             }
             let s = self.state;
-            let n = q.count;
-            state_fits(s, n, base, expected)
+            let n = q.len();
+            let rests = q.at_rest();
+            state_fits(s, n, rests, base, expected)
         } else {
             false
         }
     }
 }
 
-// Whether a state goes with a queue of n payloads and these numbers.
-fn state_fits(s: State, n: usize, base: u8, expected: u8) -> bool
-    ensures { λ r. ⌜ r ≡ stateFits s n base expected ⌝ }
+// Whether a state goes with a queue of n payloads, which is at rest or not, and these numbers.
+fn state_fits(s: State, n: usize, rests: bool, base: u8, expected: u8) -> bool
+    ensures { λ r. ⌜ r ≡ stateFits s n rests base expected ⌝ }
 {
     match s {
-        State::Idle => at_rest(n, base, expected),
-        State::Reset => at_rest(n, base, expected),
+        State::Idle => at_rest(rests, base, expected),
+        State::Reset => at_rest(rests, base, expected),
         State::Data => n == 0,
         State::Wait => 0 < n,
     }
 }
 
-// An empty queue and numbers 0.
-fn at_rest(n: usize, base: u8, expected: u8) -> bool
-    ensures { λ r. ⌜ r ≡ stateFits State.Idle n base expected ⌝ }
+// A queue at rest and numbers 0.
+fn at_rest(rests: bool, base: u8, expected: u8) -> bool
+    ensures { λ r. ⌜ r ≡ stateFits State.Idle 0 rests base expected ⌝ }
 {
-    if n == 0 {
+    if rests {
         if base == 0 { expected == 0 } else { false }
     } else {
         false

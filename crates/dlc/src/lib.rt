@@ -1,49 +1,29 @@
 // One end of a DLC link, by value: each event takes a link and gives it back with an answer.
 // Here: the types, the constructor, and the rows of the step table; the four events are in events.rt, what a well-formed link is in form.rt.
-// Definitions: specs/ (Model: a link as the paper has it; Events: the step table; Calls: what each call promises).
+// Definitions: specs/ (View: when a link value is well formed, and how the step table sees it; Calls: what each call promises). The step table
+// is in the crate dlc_table, the queue in dlc_queue; no field of the queue is looked at here.
 ghost use mathlib.Core.Path.{_≡_};
 ghost use mathlib.Core.Bool.{true, false, cond};
-ghost use mathlib.Core.List.{[]};
-ghost use Prim.Native.Nat.{_≤_, _<_};
+ghost use mathlib.Core.List.{[], _∷_};
+ghost use Prim.Native.Nat.{_+_, _≤_, _<_};
 ghost use lib.ListN.{length};
 ghost use lib.Dec.{eqb};
 ghost use Rattle.dlc_packet.specs.Numbers.{distance};
 ghost use Rattle.dlc_packet.specs.Packet.{maxPayload};
-ghost use Rattle.dlc_queue.specs.Queue.{slots, replySize};
-ghost use Rattle.dlc.specs.Model.{wellFormed, view, fresh};
-ghost use Rattle.dlc.specs.Events.{isOpen, effect, cleared, resetAckStep, judged, dataStep, without, acknowledged, dackStep, timerStep, withPayload};
-ghost use Rattle.dlc.specs.Calls.{given, Returns, Meets, OneSent, deliveredPart};
+ghost use Rattle.dlc_table.specs.Model.{fresh};
+ghost use Rattle.dlc_table.specs.Events.{isOpen, effect, cleared, resetAckStep, judged, dataStep, without, acknowledged, dackStep, timerStep, withPayload, queued};
+ghost use Rattle.dlc_queue.specs.Queue.{slots, replySize, held};
+ghost use Rattle.dlc.specs.View.{wellFormed, view, relinked};
+ghost use Rattle.dlc.specs.Calls.{given, Returns, Meets, OneSent};
+use dlc_answer::Answer;
 use dlc_queue::Queue;
+use dlc_table::DONE;
+use dlc_table::NO_ENTRY;
+use dlc_table::OTHER_NUMBER;
+use dlc_table::State;
 
 mod events;
 mod form;
-
-// The numbers that events answer; all but DONE and OTHER_NUMBER are refusals, which change nothing.
-pub const DONE: u8 = 0;
-
-pub const NOT_OPEN: u8 = 20;
-
-pub const PAYLOAD_TOO_LONG: u8 = 21;
-
-pub const QUEUE_FULL: u8 = 22;
-
-pub const BAD_PACKET: u8 = 23;
-
-pub const NO_ENTRY: u8 = 24;
-
-pub const OTHER_NUMBER: u8 = 25;
-
-pub const REPLY_TOO_SMALL: u8 = 26;
-
-pub const BAD_LINK: u8 = 27;
-
-// DLIDLE, DLRESET, DLDATA, DLDWAIT
-pub enum State {
-    Idle,
-    Reset,
-    Data,
-    Wait,
-}
 
 // A link; any value of this type may be handed to an event, which answers BAD_LINK where it is none.
 pub struct Link {
@@ -53,17 +33,6 @@ pub struct Link {
     pub base: u8,
     // The number of the DATA that is expected next.
     pub expected: u8,
-}
-
-// What an event answers: its number; whether the upper layer is told to reset; whether the lent packet delivers a payload;
-// how many packets stand at the front of the reply buffer, and their lengths, the unused ones 0.
-#[repr(C)]
-pub struct Answer {
-    pub code: u8,
-    pub upper_reset: bool,
-    pub delivered: bool,
-    pub sent: usize,
-    pub lengths: [usize; Queue::SLOTS],
 }
 
 pub struct Outcome {
@@ -94,7 +63,7 @@ impl Link {
 
     // The link in another state. A field that is an enum can't be set, so the struct is made anew.
     fn in_state(self, s: State) -> Link
-        ensures { λ r. ⌜ r ≡ record { state = s; queue = self .queue; base = self .base; expected = self .expected } ⌝ }
+        ensures { λ r. ⌜ r ≡ relinked self s (self .queue) (self .base) (self .expected) ⌝ }
     {
         let q = self.queue;
         Link {
@@ -110,12 +79,13 @@ impl Link {
         requires { ⌜ (wellFormed self ≡ true) × (replySize ≤ length (now reply)) ⌝ }
         ensures { λ r. ⌜ Meets view (cleared (view self)) self (now (reply .entry)) (now (reply .exit)) (r .link) (r .answer) ⌝ }
     {
-        let q = Queue::new();
+        let old = self.queue;
+        let q = old.emptied();
         self.queue = q;
         self.base = 0;
         self.expected = 0;
         self = self.in_state(State::Data);
-        send_one(self, DONE, true, false, dlc_packet::RESET_ACK, reply)
+        send_control(self, DONE, true, false, dlc_packet::RESET_ACK, reply)
     }
 
     // RESET_ACK opens a link that waits for it.
@@ -158,10 +128,10 @@ impl Link {
             let next = dlc_packet::advanced(expected, 1);
             self.expected = next;
             let dack = dlc_packet::DACK + dlc_packet::dack_number(next);
-            send_one(self, DONE, false, true, dack, reply)
+            send_control(self, DONE, false, true, dack, reply)
         } else {
             let dack = dlc_packet::DACK + dlc_packet::dack_number(expected);
-            send_one(self, OTHER_NUMBER, false, false, dack, reply)
+            send_control(self, OTHER_NUMBER, false, false, dack, reply)
         }
     }
 
@@ -189,7 +159,7 @@ impl Link {
         if n == 0 {
             return silent(self, NO_ENTRY);
         }
-        let count = q.count;
+        let count = q.len();
         if count < n as usize {
             return silent(self, NO_ENTRY);
         }
@@ -199,12 +169,12 @@ impl Link {
 
     // The link without its n oldest payloads.
     fn without(mut self, n: u8) -> Link
-        requires { ⌜ (wellFormed self ≡ true) × ((self .state ≡ State.Wait) × (n ≤ self .queue .count)) ⌝ }
+        requires { ⌜ (wellFormed self ≡ true) × ((self .state ≡ State.Wait) × (n ≤ held (self .queue))) ⌝ }
         ensures { λ r. ⌜ view r ≡ without (view self) n ⌝ }
     {
         let old = self.queue;
         let q = old.remove(n as usize);
-        let s = open_state(q.count);
+        let s = open_state(q.len());
         self.queue = q;
         self.base = dlc_packet::advanced(self.base, n);
         self.in_state(s)
@@ -212,13 +182,22 @@ impl Link {
 
     // The link with p queued behind the others.
     fn with_payload(mut self, p: &[u8]) -> Link
-        requires { ⌜ (wellFormed self ≡ true) × ((self .queue .count < slots) × (length (now p) ≤ maxPayload)) ⌝ }
+        requires { ⌜ (wellFormed self ≡ true) × ((held (self .queue) < slots) × (length (now p) ≤ maxPayload)) ⌝ }
         ensures { λ r. ⌜ view r ≡ withPayload (view self) (now (p .entry)) ⌝ }
     {
         let old = self.queue;
         let q = old.push(p);
         self.queue = q;
         self.in_state(State::Wait)
+    }
+
+    // A payload at an open link with room for it: queue. It is lent the reply buffer as every row is, and sends nothing.
+    fn queue(mut self, p: &[u8], reply: &mut [u8]) -> Outcome
+        requires { ⌜ (wellFormed self ≡ true) × ((held (self .queue) < slots) × ((length (now p) ≤ maxPayload) × (replySize ≤ length (now reply)))) ⌝ }
+        ensures { λ r. ⌜ Meets view (queued (view self) (now (p .entry))) self (now (reply .entry)) (now (reply .exit)) (r .link) (r .answer) ⌝ }
+    {
+        self = self.with_payload(p);
+        silent(self, DONE)
     }
 
     // The timer while payloads wait: send all.
@@ -235,26 +214,10 @@ impl Link {
                 code: DONE,
                 upper_reset: false,
                 delivered: false,
-                sent: q.count,
+                sent: q.len(),
                 lengths: lengths,
             },
         }
-    }
-}
-
-impl Answer {
-    // The payload that an arrival delivered, as a part of its packet; empty where it delivered none.
-    pub fn payload(self, packet: &[u8]) -> &[u8]
-        ensures { λ r. ⌜ now r ≡ deliveredPart (self .delivered) (now (packet .entry)) ⌝ }
-    {
-        let delivered = self.delivered;
-        if delivered {
-            if 0 < packet.len() {
-                return &packet[1..];
-            }
-            return &packet[..0];
-        }
-        &packet[..0]
     }
 }
 
@@ -293,21 +256,38 @@ fn silent(link: Link, code: u8) -> Outcome
     }
 }
 
-// Gives a link back with one packet of one octet.
+// Gives a link back with one packet that is a control octet and no payload.
+fn send_control(
+    link: Link,
+    code: u8,
+    reset: bool,
+    delivered: bool,
+    control: u8,
+    reply: &mut [u8],
+) -> Outcome
+    requires { ⌜ 1 ≤ length (now reply) ⌝ }
+    ensures { λ r. ⌜ OneSent link code reset delivered (control ∷ []) (now (reply .entry)) (now (reply .exit)) r ⌝ }
+{
+    send_one(link, code, reset, delivered, control, b"", reply)
+}
+
+// Gives a link back with one packet: a control octet, and a payload behind it.
 fn send_one(
     link: Link,
     code: u8,
     reset: bool,
     delivered: bool,
-    octet: u8,
+    control: u8,
+    payload: &[u8],
     reply: &mut [u8],
 ) -> Outcome
-    requires { ⌜ 1 ≤ length (now reply) ⌝ }
-    ensures { λ r. ⌜ OneSent link code reset delivered octet (now (reply .entry)) (now (reply .exit)) r ⌝ }
+    requires { ⌜ 1 + length (now payload) ≤ length (now reply) ⌝ }
+    ensures { λ r. ⌜ OneSent link code reset delivered (control ∷ now (payload .entry)) (now (reply .entry)) (now (reply .exit)) r ⌝ }
 {
-    reply[0] = octet;
+    reply[0] = control;
+    octets::put(payload, reply, 1);
     let mut lengths = [0usize; Queue::SLOTS];
-    lengths[0] = 1;
+    lengths[0] = 1 + payload.len();
     Outcome {
         link: link,
         answer: Answer {

@@ -1,60 +1,31 @@
 -- The definitions of specs/ on small cases, by computation: what a reader may check them against. Assumes nothing.
 use Prim.Native.Nat.{ℕ}
 use mathlib.Core.Path.{_≡_, refl}
-use mathlib.Core.Bool.{Bool, true, false}
+use mathlib.Core.Bool.{true, false}
 use mathlib.Core.List.{List, [], _∷_}
 use mathlib.Core.Option.{some}
 use native.Mathlib.Omega.{arith}
 use lib.Dec.{lit≤}
 use lib.ListN.{replicate}
-use Rattle.dlc.specs.declared.Answer.{Answer}
-use Rattle.dlc.specs.Model.{Model}
-use Rattle.dlc.specs.Answers.{done, otherNumber, queueFull, replyTooSmall}
-use Rattle.dlc.specs.Limits.{dataPacket, dackPacket, resetPacket}
+use Rattle.dlc_table.specs.Model.{Model}
+use Rattle.dlc_table.specs.Answers.{done, otherNumber, replyTooSmall}
+use Rattle.dlc_answer.specs.declared.Answer.{Answer}
+use Rattle.dlc.specs.Limits.{dataPacket, dackPacket}
+use Rattle.dlc_run.specs.Replies.{Octets}
 use Rattle.window.specs.Sides.{left, right}
-use Rattle.dlc_pair.specs.World.{Octets, isData, isDack, count, packetsIn, World, freshEnd, initial}
-use Rattle.dlc_pair.specs.History.{timer, arrival, Event, History, called, relined, acceptedBy, deliveredBy, lostBy, lostAt, Drained, TimerWaits}
+use Rattle.dlc_pair.specs.World.{World, freshEnd, initial}
+use Rattle.dlc_pair.specs.History.{timer, arrival, Event, History, called, relined, lostBy, lostAt, Drained, TimerWaits}
 use Rattle.dlc_pair.specs.Progress.{Enough, exchange, recovery}
 
--- ---- packets
--- 4x is DATA whatever x is, 5x is DACK, RESET is neither
-pub kinds : count isData ((0x40 ∷ []) ∷ (0x4F ∷ 1 ∷ []) ∷ (0x50 ∷ []) ∷ resetPacket ∷ [] ∷ []) ≡ 2
-kinds = refl
-
-pub dacks : count isDack ((0x40 ∷ []) ∷ (0x50 ∷ []) ∷ (0x5F ∷ []) ∷ resetPacket ∷ [] ∷ []) ≡ 2
-dacks = refl
-
--- two packets out of a buffer that goes on
-pub two-packets : packetsIn 2 (2 ∷ 1 ∷ 0 ∷ []) (0x40 ∷ 7 ∷ 0x41 ∷ 99 ∷ []) ≡ (0x40 ∷ 7 ∷ []) ∷ (0x41 ∷ []) ∷ []
-two-packets = refl
-
 -- ---- what an answer means for the world
-abbrev answer : ℕ → Bool → Answer
-answer c up = record { code = c; «upper_reset» = false; delivered = up; sent = 0; lengths = [] }
-
--- a payload is accepted where its call answered 0, an empty one too
-pub accepted-0 : acceptedBy [] (answer done false) ≡ [] ∷ []
-accepted-0 = refl
-
-pub accepted-22 : acceptedBy (7 ∷ []) (answer queueFull false) ≡ []
-accepted-22 = refl
-
--- DATA delivers what stands behind its control octet, where it was answered 0
-pub delivered-0 : deliveredBy (dataPacket 3 (7 ∷ 8 ∷ [])) (answer done true) ≡ (7 ∷ 8 ∷ []) ∷ []
-delivered-0 = refl
-
-pub delivered-25 : deliveredBy (dataPacket 3 (7 ∷ [])) (answer otherNumber false) ≡ []
-delivered-25 = refl
-
--- a DACK delivers nothing
-pub delivered-dack : deliveredBy (dackPacket 3) (answer done false) ≡ []
-delivered-dack = refl
+abbrev answer : ℕ → Answer
+answer c = record { code = c; «upper_reset» = false; delivered = false; sent = 0; lengths = [] }
 
 -- 26 makes the packet lost, 25 does not
-pub lost-26 : lostBy true (answer replyTooSmall false) ≡ 1
+pub lost-26 : lostBy true (answer replyTooSmall) ≡ 1
 lost-26 = refl
 
-pub lost-25 : lostBy true (answer otherNumber false) ≡ 0
+pub lost-25 : lostBy true (answer otherNumber) ≡ 0
 lost-25 = refl
 
 -- a lost DATA counts for its sender, a lost DACK for the end that it was sent to

@@ -11,9 +11,10 @@ use borrow.Author.Tests.{le-ltb, eq-eqb, ne-eqb}
 use Rattle.dlc_packet.specs.declared.Kind.the-variants.{Data, Dack}
 use Rattle.dlc_packet.specs.Packet.{resetOctet, resetAckOctet, dataOctet, dackOctet}
 use Rattle.dlc.specs.Limits.{modulus, maxPayload, dataPacket, dackPacket, dataPackets, kindOf}
+use Rattle.dlc_run.specs.Replies.{Octets, Packets, isData, isDack, packetsIn}
 use Rattle.window.specs.Packets.{Packet, dataPdu, dackPdu, countData, countDack, numbered}
 use Rattle.window.proofs.InFlight.{All}
-use Rattle.dlc_pair.specs.World.{Octets, Packets, isData, isDack, one, count, packetsIn}
+use Rattle.dlc_pair.specs.World.{one, count}
 
 -- a packet's octets
 abbrev pub encode : Packet → Octets

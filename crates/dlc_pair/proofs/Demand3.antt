@@ -5,18 +5,18 @@
 -- By itself the claim also holds of some wrong links: one that always answers 24 and sends nothing, one that answers 0 to a DACK of
 -- distance 0, one that removes all at a distance above the queue. They are ruled out by the contracts, which are equations with the step
 -- table, and the histories here are of calls that meet the contracts.
-use Prim.Native.Nat.{_+_}
 use native.Mathlib.Omega.{arith}
 use mathlib.Core.Path.{_≡_, sym, ap, _∙_}
 use mathlib.Core.List.{List, _++_, map}
 use lib.ListN.{length}
-use Rattle.dlc.specs.Model.{Model, opened}
+use Rattle.dlc_table.specs.Model.{Model, opened}
+use Rattle.dlc_run.specs.Replies.{Packets}
 use Rattle.window.specs.Sides.{left, right}
 use Rattle.window.specs.Ends.{End as Peer}
 use Rattle.window.specs.Events.{start as packetStart}
 use Rattle.window.specs.Claim.{OneWay as PacketOneWay}
 use Rattle.window.proofs.SlidingWindow.{sliding-window}
-use Rattle.dlc_pair.specs.World.{Packets, End, World, initial}
+use Rattle.dlc_pair.specs.World.{End, World, initial}
 use Rattle.dlc_pair.specs.History.{Event, History}
 use Rattle.dlc_pair.specs.Demand3.{OneWay, Demand3}
 use Rattle.dlc_pair.specs.Rules.{rules}

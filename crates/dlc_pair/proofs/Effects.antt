@@ -13,14 +13,14 @@ use lib.ListN.{length, length-append, length-drop}
 use lib.Dec.{leb, ltb, eqb, leb·suc-zero}
 use borrow.Author.Tests.{lt-ltb, le-ltb, leb-true, leb-false}
 use Rattle.dlc_packet.proofs.Numbers.{distance-dackNumber}
+use Rattle.dlc_table.specs.Answers.{done, payloadTooLong, notOpen, queueFull, noEntry, otherNumber, replyTooSmall, badLink}
+use Rattle.dlc_table.specs.Model.{Model, rebuilt, opened}
+use Rattle.dlc_table.specs.Events.{Effect, effect, refuse, expectNext, dackOf, judged, dataStep, stateOf, without, dackStep, timerStep, startStep, withPayload, queued, isOpen, packetStep, startOf, timerOf, payloadOf, arrivalOf}
 use Rattle.dlc.specs.Limits.{modulus, advance, slots, maxPayload, replySize, dackNumber, distance, dackPacket, dataPackets}
-use Rattle.dlc.specs.Answers.{done, payloadTooLong, notOpen, queueFull, noEntry, otherNumber, replyTooSmall, badLink}
-use Rattle.dlc.specs.Model.{Model}
-use Rattle.dlc.specs.Events.{Effect, effect, refuse, expectNext, dackOf, judged, dataStep, stateOf, without, dackStep, timerStep, startStep, withPayload, queued, isOpen, packetStep, startOf, timerOf, payloadOf, arrivalOf}
+use Rattle.dlc_run.specs.Replies.{Octets, Packets}
 use Rattle.window.specs.Packets.{dataPdu, dackPdu}
 use Rattle.window.specs.Ends.{Lawful, End as Peer, Sender, Receiver, freed, lostOne, acknowledges, withSender, firstSent, accept, sendAll, answering, takeData}
 use Rattle.window.proofs.InFlight.{All, all-++}
-use Rattle.dlc_pair.specs.World.{Octets, Packets}
 use Rattle.dlc_pair.specs.Rules.{rules}
 use Rattle.dlc_pair.proofs.Codec.{encode, Sound, short-drop, kindOf-data, kindOf-dack}
 use Rattle.dlc_pair.proofs.Relation.{modelOf, Fits, Becomes}
@@ -105,7 +105,7 @@ start-open : (m : Model) (q : Packets) → startStep m (stateOf q) ≡ refuse m 
 start-open m [] = refl
 start-open m (p ∷ q) = refl
 
-pub startOf-open : (a : Peer) (n : ℕ) → startOf (modelOf a) n ≡ startEffect (ltb n replySize) (modelOf a)
+pub startOf-open : (a : Peer) (n : ℕ) → startOf slots (modelOf a) n ≡ startEffect (ltb n replySize) (modelOf a)
 unfolding startOf
 startOf-open a n = ap (cond (ltb n replySize) (refuse (modelOf a) replyTooSmall)) (start-open (modelOf a) (a .sender .queue))
 
@@ -118,7 +118,7 @@ is-open [] = refl
 is-open (p ∷ q) = refl
 
 pub payloadOf-open : (a : Peer) (p : Octets) (n : ℕ)
-    → payloadOf (modelOf a) p n ≡ payloadEffect (ltb n replySize) (ltb maxPayload (length p)) (leb slots (length (a .sender .queue))) (modelOf a) p
+    → payloadOf slots (modelOf a) p n ≡ payloadEffect (ltb n replySize) (ltb maxPayload (length p)) (leb slots (length (a .sender .queue))) (modelOf a) p
 unfolding payloadOf
 payloadOf-open a p n = λ i. cond (ltb n replySize) (refuse (modelOf a) replyTooSmall)
     (cond (ltb maxPayload (length p)) (refuse (modelOf a) payloadTooLong)
@@ -139,7 +139,7 @@ state-snoc (x ∷ q) p = refl
 
 pub withPayload-accept : (a : Peer) (p : Octets) → withPayload (modelOf a) p ≡ modelOf (accept rules p a)
 withPayload-accept a p =
-    λ i. record { ok = true; state = state-snoc (a .sender .queue) p i; queue = a .sender .queue ++ (p ∷ []); base = a .sender .base; expected = a .receiver .expected }
+    λ i. rebuilt opened (state-snoc (a .sender .queue) p i) (a .sender .queue ++ (p ∷ [])) (a .sender .base) (a .receiver .expected)
 
 sound-first : (once : Bool) (x : ℕ) (p : Octets) → x < modulus → length p ≤ maxPayload → All Sound (firstSent once x p)
 sound-first true x p h k = ((h, k), tt)
@@ -170,7 +170,7 @@ timer-open : (m : Model) (q : Packets) → timerStep m (stateOf q) ≡ cond (ltb
 timer-open m [] = refl
 timer-open m (p ∷ q) = rw (lt-ltb 0 (suc (length q)) (omega arith))
 
-pub timerOf-open : (a : Peer) (n : ℕ) → timerOf (modelOf a) n ≡ timerEffect (ltb n replySize) (ltb 0 (length (a .sender .queue))) (modelOf a)
+pub timerOf-open : (a : Peer) (n : ℕ) → timerOf slots (modelOf a) n ≡ timerEffect (ltb n replySize) (ltb 0 (length (a .sender .queue))) (modelOf a)
 unfolding timerOf
 timerOf-open a n = ap (cond (ltb n replySize) (refuse (modelOf a) replyTooSmall)) (timer-open (modelOf a) (a .sender .queue))
 
@@ -187,7 +187,7 @@ data-open m [] x = refl
 data-open m (p ∷ q) x = refl
 
 pub arrivalOf-data : (a : Peer) (x : ℕ) (p : Octets) (n : ℕ) → Sound (dataPdu x p)
-    → arrivalOf (modelOf a) (encode (dataPdu x p)) n ≡ dataEffect (ltb n replySize) (eqb x (a .receiver .expected)) (modelOf a)
+    → arrivalOf slots (modelOf a) (encode (dataPdu x p)) n ≡ dataEffect (ltb n replySize) (eqb x (a .receiver .expected)) (modelOf a)
 unfolding arrivalOf
 arrivalOf-data a x p n h =
     ap (cond (ltb n replySize) (refuse (modelOf a) replyTooSmall)) (ap (packetStep (modelOf a)) (kindOf-data x p h) ∙ data-open (modelOf a) (a .sender .queue) x)
@@ -213,7 +213,7 @@ dack-open m (p ∷ q) x e =
     ap (λ (t : Packets). cond (ltb 0 d && leb d (length t)) (effect done [] (without m d)) (refuse m noEntry)) e
 
 pub arrivalOf-dack : (a : Peer) (x : ℕ) (n : ℕ) → x < modulus
-    → arrivalOf (modelOf a) (encode (dackPdu x)) n
+    → arrivalOf slots (modelOf a) (encode (dackPdu x)) n
     ≡ dackEffect (ltb n replySize) (acknowledges (distance (a .sender .base) x) (a .sender .queue)) (modelOf a) (distance (a .sender .base) x)
 unfolding arrivalOf
 arrivalOf-dack a x n h =

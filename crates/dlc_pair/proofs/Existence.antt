@@ -4,26 +4,29 @@
 use Prim.Native.Nat.{ℕ, suc, _≤_, _<_}
 use native.Mathlib.Omega.{arith}
 use mathlib.Core.Path.{_≡_, refl, sym, ap, subst, _∙_}
-use mathlib.Core.Bool.{Bool, true, false, _&&_, false≢true}
+use mathlib.Core.Bool.{Bool, true, false, false≢true}
 use mathlib.Core.List.{List, [], _∷_, map, flatten}
 use lib.ListN.{length}
 use lib.Dec.{leb, ltb, eqb}
 use borrow.Author.Tests.{lt-ltb, ltb-false, leb-false}
 use Rattle.common.specs.Buffer.{withFront}
-use Rattle.dlc_queue.proofs.Values.{queueOf, Short as ShortQueue, payloads-queueOf, formed-queueOf}
+use Rattle.dlc_table.specs.Answers.{payloadTooLong, queueFull, noEntry, replyTooSmall, refuses}
+use Rattle.dlc_table.specs.Model.{Model, opened}
+use Rattle.dlc_table.specs.Events.{Effect, refuse, stateOf, startOf, timerOf, payloadOf, arrivalOf}
+use Rattle.dlc_queue.proofs.Values.{Short as ShortQueue}
 use Rattle.dlc.specs.declared.Link.{Link}
-use Rattle.dlc.specs.Limits.{modulus, slots, maxPayload, distance}
-use Rattle.dlc.specs.Answers.{payloadTooLong, queueFull, noEntry, replyTooSmall, refuses}
-use Rattle.dlc.specs.Model.{Model, view, wellFormed, stateFits, opened}
-use Rattle.dlc.specs.Events.{Effect, refuse, stateOf, startOf, timerOf, payloadOf, arrivalOf}
+use Rattle.dlc.specs.Limits.{slots, maxPayload, distance}
+use Rattle.dlc.specs.View.{view, stateFits}
 use Rattle.dlc.specs.Calls.{answerOf, Meets}
+use Rattle.dlc.proofs.Values.{linkOf, view-linkOf}
+use Rattle.dlc_run.specs.Replies.{Octets, Packets, Reply}
 use Rattle.window.specs.Sides.{Side, left, right, Both}
 use Rattle.window.specs.Packets.{Packet, dataPdu, dackPdu}
 use Rattle.window.specs.Ends.{End as Peer, freed, acknowledges, withSender, accept, takeData}
 use Rattle.window.specs.Events.{fresh}
 use Rattle.window.proofs.InFlight.{All}
-use Rattle.dlc_pair.specs.World.{Octets, Packets, World, initial}
-use Rattle.dlc_pair.specs.History.{Act, payload, timer, start, arrival, loss, Event, Reply, GivenFront, Given, GivenAt, History, final}
+use Rattle.dlc_pair.specs.World.{World, initial}
+use Rattle.dlc_pair.specs.History.{Act, payload, timer, start, arrival, loss, Event, GivenFront, Given, GivenAt, History, final}
 use Rattle.dlc_pair.specs.Rules.{rules}
 use Rattle.dlc_pair.proofs.Codec.{encode, Sound, Short}
 use Rattle.dlc_pair.proofs.Relation.{modelOf, Fits, BothFollow, follow-mirror}
@@ -32,10 +35,7 @@ use Rattle.dlc_pair.proofs.Steps.{tooShort}
 use Rattle.dlc_pair.proofs.Runs.{stepAt-follows, run-follows, follow-initial}
 
 -- ---- a link for each end of the packet system
-abbrev pub linkOf : Peer → Link
-linkOf a = record { state = stateOf (a .sender .queue); queue = queueOf (a .sender .queue); base = a .sender .base; expected = a .receiver .expected }
-
-state-fits : (q : Packets) (b x : ℕ) → stateFits (stateOf q) (length q) b x ≡ true
+state-fits : (q : Packets) (b x : ℕ) → stateFits (stateOf q) (length q) (eqb (length q) 0) b x ≡ true
 state-fits [] b x = refl
 state-fits (p ∷ q) b x = lt-ltb 0 (suc (length q)) (omega arith)
 
@@ -44,17 +44,15 @@ short-queue : (q : Packets) → Short q → ShortQueue q
 short-queue [] s = tt
 short-queue (p ∷ q) s = (s .0, short-queue q (s .1))
 
-well-formed : (a : Peer) → Fits a → wellFormed (linkOf a) ≡ true
-unfolding wellFormed
-well-formed a f =
-    λ i. formed-queueOf (a .sender .queue) (short-queue (a .sender .queue) (f .short)) (f .few) i
-    && (lt-ltb (a .sender .base) modulus (f .base) i
-    && (lt-ltb (a .receiver .expected) modulus (f .expected) i && state-fits (a .sender .queue) (a .sender .base) (a .receiver .expected) i))
-
-pub view-linkOf : (a : Peer) → Fits a → view (linkOf a) ≡ modelOf a
-view-linkOf a f =
-    let q = payloads-queueOf (a .sender .queue) in
-    λ i. record { ok = well-formed a f i; state = stateOf (a .sender .queue); queue = q i; base = a .sender .base; expected = a .receiver .expected }
+pub view-end : (a : Peer) → Fits a → view (linkOf (modelOf a)) ≡ modelOf a
+view-end a f = view-linkOf (modelOf a) (record {
+  ok = refl;
+  few = f .few;
+  short = short-queue (a .sender .queue) (f .short);
+  base = f .base;
+  expected = f .expected;
+  state = state-fits (a .sender .queue) (a .sender .base) (a .receiver .expected);
+})
 
 -- ---- what a call may give back: the very link on a refusal, else a link for the model after it
 pub data Possible {L : Type 0} (v : L → Model) (m : Model) (d : Effect) : Type 0 where
@@ -89,7 +87,7 @@ Covers {L} v = (l : Link) → (r : L) × (v r ≡ view l)
 module _ {L : Type 0} {v : L → Model} (covers : Covers v) where
   -- by an end of the packet system
   becomes : {m : Model} {d : Effect} (a : Peer) → Fits a → d .after ≡ modelOf a → refuses (d .code) ≡ false → Possible v m d
-  becomes a f e z = moves (covers (linkOf a) .0) (covers (linkOf a) .1 ∙ view-linkOf a f ∙ sym e) z
+  becomes a f e z = moves (covers (linkOf (modelOf a)) .0) (covers (linkOf (modelOf a)) .1 ∙ view-end a f ∙ sym e) z
 
   module _ (a : Peer) (f : Fits a) where
     start-possible : (short : Bool) → Possible v (modelOf a) (startEffect short (modelOf a))
@@ -128,23 +126,23 @@ module _ {L : Type 0} {v : L → Model} (covers : Covers v) where
     front-given : (ks : List Packet) → All Sound ks → GivenFront v (map encode ks) (w .left) before
     front-given [] h = tt
     front-given (dataPdu x p ∷ ks) h =
-        reply-at (λ (m : Model). arrivalOf m (encode (dataPdu x p)) (length before)) (arrivalOf-data (s .left) x p (length before) (h .0))
+        reply-at (λ (m : Model). arrivalOf slots m (encode (dataPdu x p)) (length before)) (arrivalOf-data (s .left) x p (length before) (h .0))
         (data-possible (s .left) (f .left .fits) p (tooShort before) (eqb x (s .left .receiver .expected)))
     front-given (dackPdu x ∷ ks) h =
-        reply-at (λ (m : Model). arrivalOf m (encode (dackPdu x)) (length before)) (arrivalOf-dack (s .left) x (length before) (h .0))
+        reply-at (λ (m : Model). arrivalOf slots m (encode (dackPdu x)) (length before)) (arrivalOf-dack (s .left) x (length before) (h .0))
         (dack-possible (s .left) (f .left .fits) (distance (s .left .sender .base) x) (tooShort before)
         (acknowledges (distance (s .left .sender .base) x) (s .left .sender .queue)))
 
   given : (a : Act) {w : World L} {s : Both Peer} → BothFollow v w s → Given v a w
   given (payload p before) {w} {s} f =
-      reply-at f before (λ (m : Model). payloadOf m p (length before)) (payloadOf-open (s .left) p (length before))
+      reply-at f before (λ (m : Model). payloadOf slots m p (length before)) (payloadOf-open (s .left) p (length before))
       (payload-possible (s .left) (f .left .fits) p (tooShort before) (ltb maxPayload (length p)) (leb slots (length (s .left .sender .queue)))
       (ltb-false maxPayload (length p)) (leb-false slots (length (s .left .sender .queue))))
   given (timer before) {w} {s} f =
-      reply-at f before (λ (m : Model). timerOf m (length before)) (timerOf-open (s .left) (length before))
+      reply-at f before (λ (m : Model). timerOf slots m (length before)) (timerOf-open (s .left) (length before))
       (timer-possible (s .left) (f .left .fits) (tooShort before) (ltb 0 (length (s .left .sender .queue))))
   given (start before) {w} {s} f =
-      reply-at f before (λ (m : Model). startOf m (length before)) (startOf-open (s .left) (length before))
+      reply-at f before (λ (m : Model). startOf slots m (length before)) (startOf-open (s .left) (length before))
       (start-possible (s .left) (f .left .fits) (tooShort before))
   given (arrival before) {w} {s} f =
       subst (λ (l : Packets). GivenFront v l (w .left) before) (sym (f .right .line)) (front-given f before (s .right .line) (f .right .sound))
@@ -164,8 +162,8 @@ module _ {L : Type 0} {v : L → Model} (covers : Covers v) where
   -- there is a link that stands open
   pub opened-value : (l : L) × (v l ≡ opened)
   opened-value =
-      let l = covers (linkOf fresh) in
-      (l .0, l .1 ∙ view-linkOf fresh (record { base = omega arith; expected = omega arith; short = tt; few = omega arith }))
+      let l = covers (linkOf opened) in
+      (l .0, l .1 ∙ view-end fresh (record { base = omega arith; expected = omega arith; short = tt; few = omega arith }))
 
   -- every list of events has a history
   pub history-exists : (l l′ : L) → v l ≡ opened → v l′ ≡ opened → (es : List Event) → History v es (initial l l′)

@@ -4,12 +4,14 @@
 use mathlib.Core.Path.{_≡_, refl}
 use mathlib.Core.Bool.{true}
 use mathlib.Core.List.{List}
+use Rattle.dlc_table.specs.Model.{fresh, opened}
 use Rattle.dlc.specs.declared.Link.{Link}
-use Rattle.dlc.specs.Model.{view, fresh, opened}
+use Rattle.dlc.specs.View.{view}
 use Rattle.dlc_plain.specs.declared.PlainLink.{PlainLink}
 use Rattle.dlc_plain.specs.Plain.{plainOf, view as plainView}
 use Rattle.dlc_plain.proofs.Conversions.{view-plain}
-use Rattle.dlc_pair.specs.World.{Octets, initial}
+use Rattle.dlc_run.specs.Replies.{Octets}
+use Rattle.dlc_pair.specs.World.{initial}
 use Rattle.dlc_pair.specs.History.{Event, History, final}
 use Rattle.dlc_pair.specs.Demand3.{Demand3}
 use Rattle.dlc_pair.specs.Opening.{openingEvents}

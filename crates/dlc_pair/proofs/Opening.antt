@@ -1,6 +1,6 @@
 -- Opening: from a fresh link and any well-formed one (a fresh one too), start, timer and the arrivals of RESET and RESET_ACK lead to the world
 -- that demand 3 starts from, and demand 3 holds from there on. The theorems stand last. Assumes nothing.
-use Prim.Native.Nat.{ℕ, _+_, _≤_}
+use Prim.Native.Nat.{ℕ, _≤_}
 use native.Mathlib.Omega.{arith}
 use mathlib.Core.Path.{_≡_, refl, sym, ap, subst, _∙_}
 use mathlib.Core.Logic.{_≢_}
@@ -9,21 +9,22 @@ use mathlib.Core.List.{List, [], _∷_, _++_}
 use lib.ListN.{length}
 use lib.Dec.{eqb}
 use borrow.Author.Tests.{le-ltb}
-use Rattle.dlc.specs.declared.State.{State}
-use Rattle.dlc.specs.declared.State.the-variants.{Idle, Reset, Data}
-use Rattle.dlc.specs.declared.Link.{Link}
-use Rattle.dlc.specs.declared.Answer.{Answer}
-use Rattle.dlc.specs.Limits.{replySize, resetPacket, resetAckPacket}
-use Rattle.dlc.specs.Answers.{done, replyTooSmall, badLink, refuses}
-use Rattle.dlc.specs.Model.{Model, view, wellFormed, fresh, opened}
-use Rattle.dlc.specs.Events.{Effect, effect, cleared, startOf, timerOf, arrivalOf}
-use Rattle.dlc.specs.Calls.{Meets, StartCall, TimerCall, deliveredPart}
-use Rattle.dlc_queue.specs.Queue.{formed}
-use Rattle.dlc_queue.proofs.Values.{queueOf}
+use Rattle.dlc_table.specs.declared.State.{State}
+use Rattle.dlc_table.specs.declared.State.the-variants.{Idle, Reset, Data}
+use Rattle.dlc_table.specs.Answers.{done, replyTooSmall, badLink, refuses}
+use Rattle.dlc_table.specs.Model.{Model, inState, fresh, opened}
+use Rattle.dlc_table.specs.Events.{Effect, effect, cleared, startOf, timerOf, arrivalOf}
+use Rattle.dlc_answer.specs.declared.Answer.{Answer}
+use Rattle.dlc.specs.Limits.{slots, replySize, resetPacket, resetAckPacket}
+use Rattle.dlc.specs.View.{stateFits}
+use Rattle.dlc_answer.specs.Delivered.{deliveredPart}
+use Rattle.dlc.specs.Calls.{Meets, StartCall, TimerCall}
+use Rattle.dlc.proofs.Values.{linkOf, view-linkOf}
+use Rattle.dlc_run.specs.Replies.{Octets, Packets, isData, isDack, Reply, copiedBy}
 use Rattle.window.specs.Sides.{left, right}
 use Rattle.window.specs.Events.{fresh as freshPeer}
-use Rattle.dlc_pair.specs.World.{Octets, Packets, isData, isDack, one, count, End, World, freshEnd, initial}
-use Rattle.dlc_pair.specs.History.{arrival, Event, Reply, GivenFront, Given, GivenAt, afterAt, History, final, copiedBy, called, relined, arrived, after}
+use Rattle.dlc_pair.specs.World.{one, count, End, World, freshEnd, initial}
+use Rattle.dlc_pair.specs.History.{arrival, Event, GivenFront, Given, GivenAt, afterAt, History, final, called, relined, arrived, after}
 use Rattle.dlc_pair.specs.Demand3.{Demand3}
 use Rattle.dlc_pair.specs.Opening.{openingEvents, Stands}
 use Rattle.dlc_pair.specs.Progress.{Enough}
@@ -34,27 +35,27 @@ use Rattle.dlc_pair.proofs.Existence.{Covers, moves, reply}
 
 -- ---- the effects of the four calls, where the reply buffer is large enough
 abbrev resetting : Model
-resetting = record { ok = true; state = Reset; queue = []; base = 0; expected = 0 }
+resetting = inState Reset fresh
 
 module _ (n : ℕ) (h : replySize ≤ n) where
-  startOf-fresh : startOf fresh n ≡ effect done [] resetting
+  startOf-fresh : startOf slots fresh n ≡ effect done [] resetting
   unfolding startOf
   startOf-fresh = rw (le-ltb n replySize h)
 
-  timerOf-resetting : timerOf resetting n ≡ effect done (resetPacket ∷ []) resetting
+  timerOf-resetting : timerOf slots resetting n ≡ effect done (resetPacket ∷ []) resetting
   unfolding timerOf
   timerOf-resetting = rw (le-ltb n replySize h)
 
-  arrivalOf-reset : (m : Model) → m .ok ≡ true → arrivalOf m resetPacket n ≡ cleared m
+  arrivalOf-reset : (m : Model) → m .ok ≡ true → arrivalOf slots m resetPacket n ≡ cleared m
   unfolding arrivalOf
   arrivalOf-reset m e = rw (e, le-ltb n replySize h)
 
-  arrivalOf-resetAck : arrivalOf resetting resetAckPacket n ≡ effect done [] opened
+  arrivalOf-resetAck : arrivalOf slots resetting resetAckPacket n ≡ effect done [] opened
   unfolding arrivalOf
   arrivalOf-resetAck = rw (le-ltb n replySize h)
 
 cleared-opened : (m : Model) → m .ok ≡ true → cleared m .after ≡ opened
-cleared-opened m e = λ i. record { ok = e i; state = opened .state; queue = []; base = 0; expected = 0 }
+cleared-opened m e = rw e
 
 -- ---- an end on the way
 stands-fresh : {L : Type 0} {v : L → Model} (l : L) {m : Model} → v l ≡ m → Stands v (freshEnd l) m []
@@ -96,13 +97,13 @@ stands-relined s l n h = record {
 -- an arrival of a packet that is no DATA and no DACK, and stands alone on the line
 module _ {L : Type 0} {v : L → Model} {w : World L} {m m′ : Model} {ks : Packets} (q : Octets) (s : Stands v (w .left) m ks) (s′ : Stands v (w .right) m′ (q ∷ []))
     (before : Octets) {d : Effect}
-    (e : arrivalOf m q (length before) ≡ d) (silent : count isData (d .packets) ≡ 0) (code : d .code ≢ badLink)
+    (e : arrivalOf slots m q (length before) ≡ d) (silent : count isData (d .packets) ≡ 0) (code : d .code ≢ badLink)
     (noData : isData q ≡ false) (noDack : isDack q ≡ false) where
   stands-front : (g : GivenFront v (q ∷ []) (w .left) before)
       → Stands v (arrived v (q ∷ []) before w g .left) (d .after) (ks ++ d .packets) × Stands v (arrived v (q ∷ []) before w g .right) m′ []
   stands-front g =
       let c : Meets v d (w .left .link) before (g .later) (g .link) (g .answer) =
-      subst (λ (t : Effect). Meets v t (w .left .link) before (g .later) (g .link) (g .answer)) (ap (λ (t : Model). arrivalOf t q (length before)) (s .model) ∙ e) (g .meets) in (
+      subst (λ (t : Effect). Meets v t (w .left .link) before (g .later) (g .link) (g .answer)) (ap (λ (t : Model). arrivalOf slots t q (length before)) (s .model) ∙ e) (g .meets) in (
         stands-called c s silent code
             (λ i. cond (noData i && eqb (g .answer .code) done) (deliveredPart (g .answer .delivered) q ∷ []) [])
             (λ i. one (noDack i && eqb (g .answer .code) replyTooSmall)),
@@ -121,20 +122,10 @@ module _ {L : Type 0} {v : L → Model} {w : World L} {m m′ : Model} {ks : Pac
           (sym h) stands-front
 
 -- ---- a link in each state on the way: queue empty, numbers 0
-abbrev emptyLink : State → Link
-emptyLink s = record { state = s; queue = queueOf []; base = 0; expected = 0 }
-
-view-idle : view (emptyLink Idle) ≡ fresh
-unfolding wellFormed formed
-view-idle = refl
-
-view-reset : view (emptyLink Reset) ≡ resetting
-unfolding wellFormed formed
-view-reset = refl
-
-view-data : view (emptyLink Data) ≡ opened
-unfolding wellFormed formed
-view-data = refl
+empty-value : {L : Type 0} {v : L → Model} → Covers v → (s : State) → stateFits s 0 true 0 0 ≡ true → (l : L) × (v l ≡ inState s fresh)
+empty-value covers s h =
+    let l = covers (linkOf (inState s fresh)) in
+    (l .0, l .1 ∙ view-linkOf (inState s fresh) (record { ok = refl; few = omega arith; short = tt; base = omega arith; expected = omega arith; state = h }))
 
 -- a call whose effect is known may give back a link of the model after it
 reply-known : {L : Type 0} {v : L → Model} (d : Effect) {d′ : Effect} → d ≡ d′ → (l l″ : L) (before : Octets) → v l″ ≡ d′ .after → refuses (d′ .code) ≡ false
@@ -145,16 +136,16 @@ reply-known d e l l″ before h z = reply d l before (moves l″ (h ∙ ap (λ (
 module _ {L : Type 0} (v : L → Model) (l l′ : L) (e : v l ≡ fresh) (e′ : v l′ .ok ≡ true) (b₁ b₂ b₃ b₄ : Octets)
     (h₁ : Enough b₁) (h₂ : Enough b₂) (h₃ : Enough b₃) (h₄ : Enough b₄) where
   -- the left end after start
-  start-effect : startOf (v l) (length b₁) ≡ effect done [] resetting
-  start-effect = ap (λ (m : Model). startOf m (length b₁)) e ∙ startOf-fresh (length b₁) h₁
+  start-effect : startOf slots (v l) (length b₁) ≡ effect done [] resetting
+  start-effect = ap (λ (m : Model). startOf slots m (length b₁)) e ∙ startOf-fresh (length b₁) h₁
 
   module _ (g₁ : Reply (StartCall v l b₁)) where
     after-start : Stands v (called (g₁ .link) (g₁ .answer) (g₁ .later) [] [] 0 (freshEnd l)) resetting []
     after-start = stands-called (rw start-effect at (g₁ .meets)) (stands-fresh l e) refl (λ x. omega (arith, x)) refl refl
 
     -- and after its timer has sent RESET
-    timer-effect : timerOf (v (g₁ .link)) (length b₂) ≡ effect done (resetPacket ∷ []) resetting
-    timer-effect = ap (λ (m : Model). timerOf m (length b₂)) (after-start .model) ∙ timerOf-resetting (length b₂) h₂
+    timer-effect : timerOf slots (v (g₁ .link)) (length b₂) ≡ effect done (resetPacket ∷ []) resetting
+    timer-effect = ap (λ (m : Model). timerOf slots m (length b₂)) (after-start .model) ∙ timerOf-resetting (length b₂) h₂
 
     module _ (g₂ : Reply (TimerCall v (g₁ .link) b₂)) where
       abbrev sentReset : World L
@@ -189,20 +180,20 @@ module _ {L : Type 0} (v : L → Model) (l l′ : L) (e : v l ≡ fresh) (e′ :
   -- it can be done, where the type of links has values
   pub opening-exists : Covers v → History v (openingEvents b₁ b₂ b₃ b₄) (initial l l′)
   opening-exists covers =
-      let resets = covers (emptyLink Reset) in
-      let opens = covers (emptyLink Data) in
-      let g₁ : Reply (StartCall v l b₁) = reply-known _ start-effect l (resets .0) b₁ (resets .1 ∙ view-reset) refl in
-      let g₂ : Reply (TimerCall v (g₁ .link) b₂) = reply-known _ (timer-effect g₁) (g₁ .link) (resets .0) b₂ (resets .1 ∙ view-reset) refl in
+      let resets = empty-value covers Reset refl in
+      let opens = empty-value covers Data refl in
+      let g₁ : Reply (StartCall v l b₁) = reply-known _ start-effect l (resets .0) b₁ (resets .1) refl in
+      let g₂ : Reply (TimerCall v (g₁ .link) b₂) = reply-known _ (timer-effect g₁) (g₁ .link) (resets .0) b₂ (resets .1) refl in
       let w₂ = sentReset g₁ g₂ in
       let g₃ : GivenAt v right (arrival b₃) w₂ =
       subst (λ (k : Packets). GivenFront v k (freshEnd l′) b₃) (sym (after-timer g₁ g₂ .line))
-      (reply-known _ (arrivalOf-reset (length b₃) h₃ (v l′) e′) l′ (opens .0) b₃ (opens .1 ∙ view-data ∙ sym (cleared-opened (v l′) e′)) refl) in
+      (reply-known _ (arrivalOf-reset (length b₃) h₃ (v l′) e′) l′ (opens .0) b₃ (opens .1 ∙ sym (cleared-opened (v l′) e′)) refl) in
       let w₃ = answered g₁ g₂ g₃ in
       let s₃ = after-reset g₁ g₂ g₃ in
       let g₄ : GivenAt v left (arrival b₄) w₃ =
       subst (λ (k : Packets). GivenFront v k (w₃ .left) b₄) (sym (s₃ .0 .line))
-      (reply-known _ (ap (λ (m : Model). arrivalOf m resetAckPacket (length b₄)) (s₃ .1 .model) ∙ arrivalOf-resetAck (length b₄) h₄)
-      (w₃ .left .link) (opens .0) b₄ (opens .1 ∙ view-data) refl) in
+      (reply-known _ (ap (λ (m : Model). arrivalOf slots m resetAckPacket (length b₄)) (s₃ .1 .model) ∙ arrivalOf-resetAck (length b₄) h₄)
+      (w₃ .left .link) (opens .0) b₄ (opens .1) refl) in
       (g₁, (g₂, (g₃, (g₄, tt))))
 
 -- from a world that opening has led to, demand 3 holds
@@ -226,6 +217,4 @@ demand-three-opened s s′ es h = demand-three-from (record { left = follows-ope
 
 -- and fresh links are to be had
 pub fresh-value : {L : Type 0} {v : L → Model} → Covers v → (l : L) × (v l ≡ fresh)
-fresh-value covers =
-    let l = covers (emptyLink Idle) in
-    (l .0, l .1 ∙ view-idle)
+fresh-value covers = empty-value covers Idle refl

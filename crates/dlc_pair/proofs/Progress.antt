@@ -6,15 +6,16 @@ use mathlib.Core.Bool.{Bool, true, not}
 use mathlib.Core.List.{List, [], _∷_, _++_, map, map-append}
 use lib.ListN.{length, replicate, length-replicate, length-map}
 use borrow.Author.Tests.{le-ltb}
+use Rattle.dlc_table.specs.Model.{Model, opened}
 use Rattle.dlc.specs.Limits.{slots, replySize}
-use Rattle.dlc.specs.Model.{Model, opened}
+use Rattle.dlc_run.specs.Replies.{Octets}
 use Rattle.window.specs.Sides.{Side, left, right, opposite, Both, endAt}
 use Rattle.window.specs.Packets.{Packet}
 use Rattle.window.specs.Ends.{End as Peer}
 use Rattle.window.specs.Events.{timeout, receive, Event as PacketEvent, start as packetStart, run}
 use Rattle.window.specs.Claim.{exchange as packetExchange, Settled as PacketSettled, recovery as packetRecovery, Recovered as PacketRecovered}
 use Rattle.window.proofs.Progress.{progress as packets-progress, recovers as packets-recover}
-use Rattle.dlc_pair.specs.World.{Octets, End, World, initial}
+use Rattle.dlc_pair.specs.World.{End, World, initial}
 use Rattle.dlc_pair.specs.History.{Event, History, final}
 use Rattle.dlc_pair.specs.Progress.{Enough, AllEnough, arrivals, exchange, Settled, recovery, Recovered}
 use Rattle.dlc_pair.specs.Rules.{rules}

@@ -3,33 +3,27 @@ use Prim.Native.Nat.{ℕ, _+_, _≤_, _<_}
 use native.Mathlib.Nat.{add-zero}
 use mathlib.Core.Path.{_≡_, sym, ap, subst, _∙_}
 use mathlib.Core.Logic.{_≢_}
-use mathlib.Core.Bool.{true}
 use mathlib.Core.List.{List, [], _∷_, _++_, map, map-append, append-nil}
 use lib.ListN.{length}
-use Rattle.dlc.specs.declared.Answer.{Answer}
+use Rattle.dlc_table.specs.Answers.{badLink}
+use Rattle.dlc_table.specs.Model.{Model, rebuilt, opened}
+use Rattle.dlc_table.specs.Events.{Effect, refuse, stateOf}
+use Rattle.dlc_answer.specs.declared.Answer.{Answer}
 use Rattle.dlc.specs.Limits.{modulus, slots}
-use Rattle.dlc.specs.Answers.{badLink}
-use Rattle.dlc.specs.Model.{Model}
-use Rattle.dlc.specs.Events.{Effect, refuse, stateOf}
 use Rattle.dlc.specs.Calls.{Meets}
+use Rattle.dlc_run.specs.Replies.{Octets, Packets, isData, copiedBy}
 use Rattle.window.specs.Sides.{Both, mirror}
 use Rattle.window.specs.Packets.{Packet, countData}
 use Rattle.window.specs.Ends.{End as Peer, Sender}
 use Rattle.window.proofs.InFlight.{All, all-++}
-use Rattle.dlc_pair.specs.World.{Octets, Packets, isData, count, End, World}
-use Rattle.dlc_pair.specs.History.{copiedBy, called, relined}
+use Rattle.dlc_pair.specs.World.{count, End, World}
+use Rattle.dlc_pair.specs.History.{called, relined}
 use Rattle.dlc_pair.specs.Demand3.{Never}
 use Rattle.dlc_pair.proofs.Codec.{encode, Sound, Short, count-++, count-data, packetsIn-flatten}
 
 -- the model of an open link that stands where an end of the packet system does
 abbrev pub modelOf : Peer → Model
-modelOf a = record {
-  ok = true;
-  state = stateOf (a .sender .queue);
-  queue = a .sender .queue;
-  base = a .sender .base;
-  expected = a .receiver .expected;
-}
+modelOf a = rebuilt opened (stateOf (a .sender .queue)) (a .sender .queue) (a .sender .base) (a .receiver .expected)
 
 -- an end of the packet system that a link value can hold
 pub record Fits (a : Peer) : Type 0 where

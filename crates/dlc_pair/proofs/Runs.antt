@@ -2,12 +2,13 @@
 use native.Mathlib.Omega.{arith}
 use mathlib.Core.Path.{_≡_, refl, sym, ap, _∙_}
 use mathlib.Core.List.{List, [], _∷_, map}
-use Rattle.dlc.specs.Model.{Model, opened}
+use Rattle.dlc_table.specs.Model.{Model, opened}
+use Rattle.dlc_run.specs.Replies.{isData, isDack}
 use Rattle.window.specs.Sides.{Side, left, right, Both}
 use Rattle.window.specs.Packets.{countData, countDack}
 use Rattle.window.specs.Ends.{End as Peer}
 use Rattle.window.specs.Events.{Event as PacketEvent, fresh, start as packetStart, stepAt, run, Waits as PacketWaits, WaitsAt as PacketWaitsAt, TimerWaits as PacketTimerWaits}
-use Rattle.dlc_pair.specs.World.{isData, isDack, count, freshEnd, World, initial}
+use Rattle.dlc_pair.specs.World.{count, freshEnd, World, initial}
 use Rattle.dlc_pair.specs.History.{Act, payload, timer, start, arrival, loss, Event, GivenAt, afterAt, History, final, Waits, WaitsAt, TimerWaits}
 use Rattle.dlc_pair.specs.Rules.{rules}
 use Rattle.dlc_pair.proofs.Codec.{count-data, count-dack}

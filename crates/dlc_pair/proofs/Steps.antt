@@ -10,20 +10,22 @@ use mathlib.Core.List.{List, [], _∷_, _++_, map, append-nil}
 use lib.ListN.{length, getElem?}
 use lib.Dec.{leb, ltb, eqb}
 use borrow.Author.Tests.{ltb-false, leb-false}
-use Rattle.dlc.specs.declared.Answer.{Answer}
+use Rattle.dlc_table.specs.Answers.{done, payloadTooLong, queueFull, noEntry, replyTooSmall, badLink}
+use Rattle.dlc_table.specs.Model.{Model}
+use Rattle.dlc_table.specs.Events.{Effect, refuse, startOf, timerOf, payloadOf, arrivalOf}
+use Rattle.dlc_answer.specs.declared.Answer.{Answer}
 use Rattle.dlc.specs.Limits.{modulus, slots, maxPayload, replySize, distance}
-use Rattle.dlc.specs.Answers.{done, payloadTooLong, queueFull, noEntry, replyTooSmall, badLink}
-use Rattle.dlc.specs.Model.{Model}
-use Rattle.dlc.specs.Events.{Effect, refuse, startOf, timerOf, payloadOf, arrivalOf}
-use Rattle.dlc.specs.Calls.{answerOf, Meets, deliveredPart}
+use Rattle.dlc_answer.specs.Delivered.{deliveredPart}
+use Rattle.dlc.specs.Calls.{answerOf, Meets}
+use Rattle.dlc_run.specs.Replies.{Octets, Packets, isData, isDack, acceptedBy, deliveredBy}
 use Rattle.window.specs.Sides.{Both, eraseAt}
 use Rattle.window.specs.Packets.{Packet, dataPdu, dackPdu}
 use Rattle.window.specs.Ends.{End as Peer, delivering, freed, lostOne, acknowledges, withLine, withSender, accept, sendAll, takeData}
 use Rattle.window.specs.Events.{Act as PacketAct, offer, timeout, receive, lose, loseAt, arrive, step}
 use Rattle.window.proofs.InFlight.{All, all-eraseAt, map-eraseAt}
 use Rattle.window.proofs.Marks.{get-map}
-use Rattle.dlc_pair.specs.World.{Octets, Packets, isData, isDack, one, World}
-use Rattle.dlc_pair.specs.History.{Act, payload, timer, start, arrival, loss, GivenFront, Given, called, relined, acceptedBy, deliveredBy, lostBy, arrived, lostAt, after}
+use Rattle.dlc_pair.specs.World.{one, World}
+use Rattle.dlc_pair.specs.History.{Act, payload, timer, start, arrival, loss, GivenFront, Given, called, relined, lostBy, arrived, lostAt, after}
 use Rattle.dlc_pair.specs.Rules.{rules}
 use Rattle.dlc_pair.proofs.Codec.{encode, Sound, dataBit, dackBit, isData-encode, isDack-encode, dataPackets-numbered, sound-numbered}
 use Rattle.dlc_pair.proofs.Relation.{modelOf, BothFollow, Becomes, follows-called, becomes-same, losing, follows-relined}
@@ -174,11 +176,11 @@ front-follows : {L : Type 0} {v : L → Model} {w : World L} {s : Both Peer} →
 front-follows f before [] h g = f
 front-follows {w} {s} f before (dataPdu x p ∷ ks) h g =
     data-follows f x p ks (h .0) (h .1) (tooShort before) (eqb x (s .left .receiver .expected))
-    (met f (λ (m : Model). arrivalOf m (encode (dataPdu x p)) (length before)) (arrivalOf-data (s .left) x p (length before) (h .0)) (g .meets))
+    (met f (λ (m : Model). arrivalOf slots m (encode (dataPdu x p)) (length before)) (arrivalOf-data (s .left) x p (length before) (h .0)) (g .meets))
 front-follows {w} {s} f before (dackPdu x ∷ ks) h g =
     let d : ℕ = distance (s .left .sender .base) x in
     dack-follows f x ks (h .0) (h .1) d (tooShort before) (acknowledges d (s .left .sender .queue))
-    (met f (λ (m : Model). arrivalOf m (encode (dackPdu x)) (length before)) (arrivalOf-dack (s .left) x (length before) (h .0)) (g .meets))
+    (met f (λ (m : Model). arrivalOf slots m (encode (dackPdu x)) (length before)) (arrivalOf-dack (s .left) x (length before) (h .0)) (g .meets))
 
 -- ---- a loss
 sound-at : (n : ℕ) (ks : List Packet) (k : Packet) → All Sound ks → getElem? ks n ≡ some k → Sound k
@@ -218,12 +220,12 @@ step-follows (payload p before) {w} {s} f g =
     rw (ltb-not-leb (length (s .left .sender .queue)) slots)
     (payload-follows f p (tooShort before) (ltb maxPayload (length p)) (leb slots (length (s .left .sender .queue)))
     (ltb-false maxPayload (length p)) (leb-false slots (length (s .left .sender .queue)))
-    (met f (λ (m : Model). payloadOf m p (length before)) (payloadOf-open (s .left) p (length before)) (g .meets)))
+    (met f (λ (m : Model). payloadOf slots m p (length before)) (payloadOf-open (s .left) p (length before)) (g .meets)))
 step-follows (timer before) {w} {s} f g =
     timer-follows f (tooShort before) (ltb 0 (length (s .left .sender .queue)))
-    (met f (λ (m : Model). timerOf m (length before)) (timerOf-open (s .left) (length before)) (g .meets))
+    (met f (λ (m : Model). timerOf slots m (length before)) (timerOf-open (s .left) (length before)) (g .meets))
 step-follows (start before) {w} {s} f g =
-    start-follows f (tooShort before) (met f (λ (m : Model). startOf m (length before)) (startOf-open (s .left) (length before)) (g .meets))
+    start-follows f (tooShort before) (met f (λ (m : Model). startOf slots m (length before)) (startOf-open (s .left) (length before)) (g .meets))
 step-follows {v = v} (arrival before) {w} {s} f g = at-line (w .right .line) (f .right .line) g
   where
     at-line : (l : Packets) → l ≡ map encode (s .right .line) → (g : GivenFront v l (w .left) before)

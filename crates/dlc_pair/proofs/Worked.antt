@@ -5,12 +5,13 @@ use mathlib.Core.Path.{_≡_, refl, sym, ap, _∙_}
 use mathlib.Core.List.{List, [], _∷_, _++_, map}
 use lib.Dec.{T}
 use lib.ListN.{length, replicate}
+use Rattle.dlc_table.specs.Model.{Model, opened}
 use Rattle.dlc.specs.Limits.{slots, replySize}
-use Rattle.dlc.specs.Model.{Model, opened}
+use Rattle.dlc_run.specs.Replies.{Octets, Packets}
 use Rattle.window.specs.Sides.{Side, left, right}
 use Rattle.window.specs.Events.{start as packetStart}
 use Rattle.window.proofs.Deciding.{timerWaits, timerWaits-true}
-use Rattle.dlc_pair.specs.World.{Octets, Packets, dataSent, initial}
+use Rattle.dlc_pair.specs.World.{dataSent, initial}
 use Rattle.dlc_pair.specs.History.{Act, payload, timer, arrival, loss, Event, after, History, final, TimerWaits}
 use Rattle.dlc_pair.specs.Rules.{rules}
 use Rattle.dlc_pair.proofs.Relation.{BothFollow}

@@ -6,10 +6,10 @@ use Prim.Native.Nat.{ℕ, _+_, _*_, _≤_}
 use mathlib.Core.Logic.{_≢_}
 use mathlib.Core.List.{List, [], _∷_, IsPrefix}
 use lib.ListN.{length}
-use Rattle.window.specs.Sides.{left, right}
+use Rattle.dlc_table.specs.Answers.{badLink}
+use Rattle.dlc_table.specs.Model.{Model}
 use Rattle.dlc.specs.Limits.{slots}
-use Rattle.dlc.specs.Answers.{badLink}
-use Rattle.dlc.specs.Model.{Model}
+use Rattle.window.specs.Sides.{left, right}
 use Rattle.dlc_pair.specs.World.{End, World, dataSent}
 use Rattle.dlc_pair.specs.History.{Event, History, final, TimerWaits}
 

@@ -8,17 +8,18 @@
 -- v is the view of the links that the calls take: `view` of `Link`, or that of the link in plain numbers.
 use Prim.Native.Nat.{ℕ, _+_}
 use mathlib.Core.Path.{_≡_}
-use mathlib.Core.Bool.{Bool, cond, _&&_}
+use mathlib.Core.Bool.{Bool, _&&_}
 use mathlib.Core.Option.{Option, none, some}
 use mathlib.Core.List.{List, [], _∷_, _++_}
 use lib.ListN.{getElem?}
 use lib.Dec.{eqb}
+use Rattle.dlc_table.specs.Answers.{replyTooSmall}
+use Rattle.dlc_table.specs.Model.{Model}
+use Rattle.dlc_answer.specs.declared.Answer.{Answer}
+use Rattle.dlc.specs.Calls.{StartCall, TimerCall, PayloadCall, ArrivalCall}
+use Rattle.dlc_run.specs.Replies.{Octets, Packets, isData, isDack, Reply, copiedBy, acceptedBy, deliveredBy}
 use Rattle.window.specs.Sides.{Side, left, right, mirror, AskedAt, eraseAt}
-use Rattle.dlc.specs.declared.Answer.{Answer}
-use Rattle.dlc.specs.Answers.{done, replyTooSmall}
-use Rattle.dlc.specs.Model.{Model}
-use Rattle.dlc.specs.Calls.{StartCall, TimerCall, PayloadCall, ArrivalCall, deliveredPart}
-use Rattle.dlc_pair.specs.World.{Octets, Packets, isData, isDack, one, count, packetsIn, End, World}
+use Rattle.dlc_pair.specs.World.{one, count, End, World}
 
 -- what happens at an end; a call comes with the octets lent to it, any octets and any number of them
 pub data Act : Type 0 where
@@ -33,13 +34,6 @@ pub record Event : Type 0 where
   pub act : Act
 
 -- ---- what a call gave back
--- the reply buffer after it, a link and an answer, under the contract that the link's function ensures
-pub record Reply {L : Type 0} (Contract : Octets → L → Answer → Type 0) : Type 0 where
-  pub later : Octets
-  pub link : L
-  pub answer : Answer
-  pub meets : Contract later link answer
-
 -- of an arrival, by the incoming line; nothing is called where it is empty
 abbrev pub GivenFront : {L : Type 0} → (L → Model) → Packets → End L → Octets → Type 0
 GivenFront v [] e before = Unit {0}
@@ -54,10 +48,6 @@ Given v (arrival before) w = GivenFront v (w .right .line) (w .left) before
 Given v (loss n) w = Unit {0}
 
 -- ---- the world after an event
--- "packets sent are copied from the store, in order": by the answer's number and lengths, out of the buffer after the call
-abbrev pub copiedBy : Answer → Octets → Packets
-copiedBy a later = packetsIn (a .sent) (a .lengths) later
-
 -- an end after a call: the payloads newly accepted and delivered, and how many packets that count for it were lost
 abbrev pub called : {L : Type 0} → L → Answer → Octets → Packets → Packets → ℕ → End L → End L
 called r a later accepted delivered n e = record {
@@ -81,14 +71,6 @@ relined l n e = record {
   lost = e .lost + n;
   answers = e .answers;
 }
-
--- "accepted are payloads whose call answered 0"
-abbrev pub acceptedBy : Octets → Answer → Packets
-acceptedBy p a = cond (eqb (a .code) done) (p ∷ []) []
-
--- "handed up, those shown where arriving DATA was answered 0"
-abbrev pub deliveredBy : Octets → Answer → Packets
-deliveredBy q a = cond (isData q && eqb (a .code) done) (deliveredPart (a .delivered) q ∷ []) []
 
 -- "answer 26 makes the lent one lost"; the Bool says whether it would count
 abbrev pub lostBy : Bool → Answer → ℕ

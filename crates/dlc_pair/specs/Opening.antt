@@ -1,10 +1,11 @@
 -- Opening a link: the events that lead two links to the world that demand 3 starts from. Proved in proofs/Opening. Assumes nothing.
 use mathlib.Core.Path.{_≡_}
 use mathlib.Core.List.{List, [], _∷_}
+use Rattle.dlc_table.specs.Answers.{badLink}
+use Rattle.dlc_table.specs.Model.{Model}
+use Rattle.dlc_run.specs.Replies.{Octets, Packets}
 use Rattle.window.specs.Sides.{left, right}
-use Rattle.dlc.specs.Answers.{badLink}
-use Rattle.dlc.specs.Model.{Model}
-use Rattle.dlc_pair.specs.World.{Octets, Packets, End, dataSent}
+use Rattle.dlc_pair.specs.World.{End, dataSent}
 use Rattle.dlc_pair.specs.History.{start, timer, arrival, Event}
 use Rattle.dlc_pair.specs.Demand3.{Never}
 

@@ -3,10 +3,11 @@ use Prim.Native.Nat.{ℕ, _+_, _≤_}
 use mathlib.Core.Path.{_≡_}
 use mathlib.Core.List.{List, [], _∷_, _++_, map}
 use lib.ListN.{length, replicate}
-use Rattle.window.specs.Sides.{Side, left, right, opposite, endAt}
+use Rattle.dlc_table.specs.Model.{Model}
 use Rattle.dlc.specs.Limits.{replySize}
-use Rattle.dlc.specs.Model.{Model}
-use Rattle.dlc_pair.specs.World.{Octets, World}
+use Rattle.dlc_run.specs.Replies.{Octets}
+use Rattle.window.specs.Sides.{Side, left, right, opposite, endAt}
+use Rattle.dlc_pair.specs.World.{World}
 use Rattle.dlc_pair.specs.History.{timer, arrival, Event}
 
 -- a reply buffer that no call refuses

@@ -1,30 +1,9 @@
 -- Two ends of a link and the two lines between them: what there is. Cited by History and Demand3. Assumes nothing.
-use Prim.Native.Nat.{ℕ, zero, suc, _+_, _/_}
+use Prim.Native.Nat.{ℕ, _+_}
 use mathlib.Core.Bool.{Bool, true, false}
 use mathlib.Core.List.{List, [], _∷_}
-use lib.ListN.{take, drop}
-use lib.Dec.{eqb}
+use Rattle.dlc_run.specs.Replies.{Octets, Packets, isData}
 use Rattle.window.specs.Sides.{Both}
-use Rattle.dlc_packet.specs.Packet.{dataOctet, dackOctet}
-use Rattle.dlc.specs.Limits.{modulus}
-
--- octets of a packet, of a payload or of a buffer; and lists of packets or of payloads
-abbrev pub Octets : Type 0
-Octets = List ℕ
-
-abbrev pub Packets : Type 0
-Packets = List (List ℕ)
-
--- ---- packets
--- "4x DATA"
-abbrev pub isData : Octets → Bool
-isData [] = false
-isData (c ∷ p) = eqb (c / modulus) (dataOctet / modulus)
-
--- "5x DACK"
-abbrev pub isDack : Octets → Bool
-isDack [] = false
-isDack (c ∷ p) = eqb (c / modulus) (dackOctet / modulus)
 
 abbrev pub one : Bool → ℕ
 one true = 1
@@ -34,12 +13,6 @@ one false = 0
 abbrev pub count : (Octets → Bool) → Packets → ℕ
 count f [] = 0
 count f (q ∷ qs) = one (f q) + count f qs
-
--- the first n packets of a buffer, which stand one after another, by their lengths
-abbrev pub packetsIn : ℕ → List ℕ → Octets → Packets
-packetsIn zero lengths m = []
-packetsIn (suc n) [] m = []
-packetsIn (suc n) (k ∷ lengths) m = take k m ∷ packetsIn n lengths (drop k m)
 
 -- ---- the world
 -- L is a type of links: a claim here is about whatever calls give back under the contracts of its view (dlc/specs/Calls)

@@ -7,18 +7,20 @@ use mathlib.Core.List.{List, flatten}
 use lib.Dec.{leb}
 use borrow.Author.Tests.{le-leb, lt-leb}
 use Rattle.common.specs.Buffer.{withFront}
-use Rattle.dlc.specs.declared.State.{State}
-use Rattle.dlc.specs.declared.State.the-variants.{Idle, Reset, Data, Wait}
+use Rattle.dlc_table.specs.declared.State.{State}
+use Rattle.dlc_table.specs.declared.State.the-variants.{Idle, Reset, Data, Wait}
+use Rattle.dlc_table.specs.Answers.{badLink, done, refuses}
+use Rattle.dlc_table.specs.Model.{Model}
+use Rattle.dlc_table.specs.Events.{Effect, refuse, startOf, timerOf, payloadOf, arrivalOf}
+use Rattle.dlc_table.proofs.Refusals.{answered, start-refused, timer-refused, payload-refused, arrival-refused}
+use Rattle.dlc_queue.specs.Queue.{slots}
 use Rattle.dlc.specs.declared.Link.{Link}
 use Rattle.dlc.specs.declared.Outcome.{Outcome}
-use Rattle.dlc.specs.Answers.{badLink, done, refuses}
-use Rattle.dlc.specs.Model.{Model, wellFormed, view as linkView}
-use Rattle.dlc.specs.Events.{Effect, refuse, startOf, timerOf, payloadOf, arrivalOf}
+use Rattle.dlc.specs.View.{wellFormed, seen, view as linkView}
 use Rattle.dlc.specs.Calls.{answerOf, Meets}
-use Rattle.dlc.proofs.Refusals.{answered, start-refused, timer-refused, payload-refused, arrival-refused}
 use Rattle.dlc_plain.specs.declared.PlainLink.{PlainLink}
 use Rattle.dlc_plain.specs.declared.PlainOutcome.{PlainOutcome}
-use Rattle.dlc_plain.specs.Plain.{numberOf, stateOf, stateWait, linkOf, plainOf, outcomeOf, view}
+use Rattle.dlc_plain.specs.Plain.{numberOf, stateOf, stateWait, linkWith, plainWith, linkOf, plainOf, outcomeOf, view}
 
 -- ---- there and back
 state-again : (s : State) → stateOf (numberOf s) ≡ s
@@ -41,21 +43,21 @@ number-again (suc (suc (suc zero))) h = refl
 number-again (suc (suc (suc (suc n)))) h = absurd (omega (arith, h))
 
 pub plain-again : (c : PlainLink) → c .state ≤ stateWait → plainOf (linkOf c) ≡ c
-plain-again c h = λ i. record { state = number-again (c .state) h i; queue = c .queue; base = c .base; expected = c .expected }
+plain-again c h = ap (plainWith (linkOf c)) (number-again (c .state) h)
 
 -- the numbers of a link are seen as the link is
 pub view-plain : (l : Link) → view (plainOf l) ≡ linkView l
 view-plain l =
-    let again : linkOf (plainOf l) ≡ l = λ i. record { state = state-again (l .state) i; queue = l .queue; base = l .base; expected = l .expected } in
+    let again : linkOf (plainOf l) ≡ l = ap (linkWith (plainOf l)) (state-again (l .state)) in
     let ok : (leb (numberOf (l .state)) stateWait && wellFormed (linkOf (plainOf l))) ≡ wellFormed l = ap₂ _&&_ (known (l .state)) (ap wellFormed again) in
-    λ i. record { ok = ok i; state = state-again (l .state) i; queue = linkView l .queue; base = l .base; expected = l .expected }
+    λ i. seen (ok i) (again i)
 
 -- ---- a state of the four: the link's call does it
 module _ (c : PlainLink) (h : c .state ≤ stateWait) where
   pub view-link : view c ≡ linkView (linkOf c)
   view-link =
       let ok : (leb (c .state) stateWait && wellFormed (linkOf c)) ≡ wellFormed (linkOf c) = rw (le-leb _ _ h) in
-      λ i. record { ok = ok i; state = stateOf (c .state); queue = linkView (linkOf c) .queue; base = c .base; expected = c .expected }
+      λ i. seen (ok i) (linkOf c)
 
   -- f is the event of the step table, l the link by its numbers
   pub passed : (f : Model → Effect) (before later : List ℕ) (l : Link) (o : Outcome) (r : PlainOutcome) → l ≡ linkOf c
@@ -77,23 +79,23 @@ module _ (c : PlainLink) (h : c .state ≤ stateWait) where
 module _ (c : PlainLink) (h : stateWait < c .state) where
   module _ (room : ℕ) where
     -- what the refusals that all calls share answer
-    bad-link : badLink ≡ answered (view c) room
+    bad-link : badLink ≡ answered slots (view c) room
     bad-link = simp (lt-leb _ _ h)
 
     not-done : badLink ≡ done → ⊥
     not-done e = omega (arith, e)
 
-    pub start-bad : startOf (view c) room ≡ refuse (view c) badLink
-    start-bad = start-refused (view c) room badLink bad-link not-done
+    pub start-bad : startOf slots (view c) room ≡ refuse (view c) badLink
+    start-bad = start-refused slots (view c) room badLink bad-link not-done
 
-    pub timer-bad : timerOf (view c) room ≡ refuse (view c) badLink
-    timer-bad = timer-refused (view c) room badLink bad-link not-done
+    pub timer-bad : timerOf slots (view c) room ≡ refuse (view c) badLink
+    timer-bad = timer-refused slots (view c) room badLink bad-link not-done
 
-    pub payload-bad : (p : List ℕ) → payloadOf (view c) p room ≡ refuse (view c) badLink
-    payload-bad = payload-refused (view c) room badLink bad-link not-done
+    pub payload-bad : (p : List ℕ) → payloadOf slots (view c) p room ≡ refuse (view c) badLink
+    payload-bad = payload-refused slots (view c) room badLink bad-link not-done
 
-    pub arrival-bad : (packet : List ℕ) → arrivalOf (view c) packet room ≡ refuse (view c) badLink
-    arrival-bad = arrival-refused (view c) room badLink bad-link not-done
+    pub arrival-bad : (packet : List ℕ) → arrivalOf slots (view c) packet room ≡ refuse (view c) badLink
+    arrival-bad = arrival-refused slots (view c) room badLink bad-link not-done
 
   pub refused : (d : Effect) (before : List ℕ) (r : PlainOutcome) → d ≡ refuse (view c) badLink
       → r ≡ record { link = c; answer = answerOf (refuse (view c) badLink) }

@@ -4,7 +4,7 @@ use Prim.Native.Nat.{ℕ}
 use mathlib.Core.Path.{_≡_}
 use mathlib.Core.Bool.{true}
 use mathlib.Core.List.{List}
-use Rattle.dlc.specs.declared.Answer.{Answer}
+use Rattle.dlc_answer.specs.declared.Answer.{Answer}
 use Rattle.dlc.specs.Calls.{StartCall, TimerCall, PayloadCall, ArrivalCall}
 use Rattle.dlc.proofs.StaysFormed as formed
 use Rattle.dlc.proofs.FreeSlots as alike

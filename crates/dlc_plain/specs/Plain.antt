@@ -5,12 +5,12 @@
 use Prim.Native.Nat.{ℕ}
 use mathlib.Core.Bool.{_&&_, cond}
 use lib.Dec.{leb, eqb}
-use Rattle.dlc_queue.specs.Queue.{payloads}
-use Rattle.dlc.specs.declared.State.{State}
-use Rattle.dlc.specs.declared.State.the-variants.{Idle, Reset, Data, Wait}
+use Rattle.dlc_table.specs.declared.State.{State}
+use Rattle.dlc_table.specs.declared.State.the-variants.{Idle, Reset, Data, Wait}
+use Rattle.dlc_table.specs.Model.{Model}
 use Rattle.dlc.specs.declared.Link.{Link}
 use Rattle.dlc.specs.declared.Outcome.{Outcome}
-use Rattle.dlc.specs.Model.{Model, wellFormed}
+use Rattle.dlc.specs.View.{wellFormed, seen}
 use Rattle.dlc_plain.specs.declared.PlainLink.{PlainLink}
 use Rattle.dlc_plain.specs.declared.PlainOutcome.{PlainOutcome}
 
@@ -37,20 +37,21 @@ numberOf Wait = stateWait
 abbrev pub stateOf : ℕ → State
 stateOf n = cond (eqb n stateIdle) Idle (cond (eqb n stateReset) Reset (cond (eqb n stateData) Data Wait))
 
+-- all but the state, which is the same in both; every link in plain numbers, and every link of one, is made so
+abbrev pub linkWith : PlainLink → State → Link
+linkWith c s = record { state = s; queue = c .queue; base = c .base; expected = c .expected }
+
+abbrev pub plainWith : Link → ℕ → PlainLink
+plainWith l n = record { state = n; queue = l .queue; base = l .base; expected = l .expected }
+
 abbrev pub linkOf : PlainLink → Link
-linkOf c = record { state = stateOf (c .state); queue = c .queue; base = c .base; expected = c .expected }
+linkOf c = linkWith c (stateOf (c .state))
 
 abbrev pub plainOf : Link → PlainLink
-plainOf l = record { state = numberOf (l .state); queue = l .queue; base = l .base; expected = l .expected }
+plainOf l = plainWith l (numberOf (l .state))
 
 abbrev pub outcomeOf : Outcome → PlainOutcome
 outcomeOf o = record { link = plainOf (o .link); answer = o .answer }
 
 abbrev pub view : PlainLink → Model
-view c = record {
-  ok = leb (c .state) stateWait && wellFormed (linkOf c);
-  state = stateOf (c .state);
-  queue = payloads (c .queue);
-  base = c .base;
-  expected = c .expected;
-}
+view c = seen (leb (c .state) stateWait && wellFormed (linkOf c)) (linkOf c)

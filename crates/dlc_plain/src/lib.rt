@@ -1,17 +1,17 @@
 // A link in plain numbers, for C programs: its state is a number, and any number may come.
 // The four events are those of the crate dlc. A state that is none of the four makes the value ill formed: answered with 27, as there.
 ghost use mathlib.Core.Path.{_≡_};
-ghost use Rattle.dlc.specs.Model.{fresh};
-ghost use Rattle.dlc.specs.Answers.{badLink};
-ghost use Rattle.dlc.specs.Events.{refuse};
+ghost use Rattle.dlc_table.specs.Model.{fresh};
+ghost use Rattle.dlc_table.specs.Answers.{badLink};
+ghost use Rattle.dlc_table.specs.Events.{refuse};
 ghost use Rattle.dlc.specs.Calls.{answerOf, StartCall, TimerCall, PayloadCall, ArrivalCall};
 ghost use Rattle.dlc_plain.specs.Plain.{numberOf, stateOf, linkOf, plainOf, outcomeOf, view};
-use dlc::Answer;
-use dlc::BAD_LINK;
 use dlc::Link;
 use dlc::Outcome;
-use dlc::State;
+use dlc_answer::Answer;
 use dlc_queue::Queue;
+use dlc_table::BAD_LINK;
+use dlc_table::State;
 
 // The numbers of the states, in the paper's order.
 pub const STATE_IDLE: u8 = 0;

@@ -11,11 +11,11 @@ use lib.Dec.{leb}
 use borrow.Author.Tests.{leb-true, le-leb, lt-leb, lt-ltb, le-ltb}
 use Rattle.common.proofs.Buffer.{sets-++, sets-front}
 use Rattle.dlc_packet.specs.Numbers.{modulus, advance}
-use Rattle.dlc_packet.specs.Packet.{maxPayload, dataPacket}
+use Rattle.dlc_packet.specs.Packet.{maxPayload, dataPacket, dataPackets}
 use Rattle.dlc_queue.specs.declared.Payload.{Payload}
 use Rattle.dlc_queue.specs.declared.Queue.{Queue}
 use Rattle.dlc_queue.specs.Queue.{slots, replySize, octetsOf, allShort, payloads, formed}
-use Rattle.dlc_queue.specs.Send.{dataPackets, sending, Written, Sent}
+use Rattle.dlc_queue.specs.Send.{sending, Written, Sent}
 use Rattle.dlc_queue.proofs.Lists.{drop-take-cons, map-drop}
 use Rattle.dlc_queue.proofs.Short.{none, both}
 

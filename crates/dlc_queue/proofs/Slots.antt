@@ -10,11 +10,11 @@ use lib.Seq.{take-suc-set, length-take-le}
 use lib.Dec.{leb}
 use mir.Val.{Val}
 use denote.Laws.{Is}
-use borrow.Author.Tests.{le-leb, lt-leb, lt-ltb, le-ltb, leb-true}
+use borrow.Author.Tests.{le-leb, lt-leb, lt-ltb, le-ltb, leb-true, eqb-true}
 use Rattle.dlc_packet.specs.Packet.{maxPayload}
 use Rattle.dlc_queue.specs.declared.Payload.{Payload}
 use Rattle.dlc_queue.specs.declared.Queue.{Queue}
-use Rattle.dlc_queue.specs.Queue.{slots, octetsOf, used, payloads, allShort, formed, hasRoom, hasOldest, Pushed, Removed}
+use Rattle.dlc_queue.specs.Queue.{slots, octetsOf, used, payloads, held, allShort, formed, atRest, emptied, hasRoom, hasOldest, Pushed, Removed}
 use Rattle.dlc_queue.proofs.Lists.{map-drop, map-snoc}
 use Rattle.dlc_queue.proofs.Queue as Q
 use Rattle.dlc_queue.proofs.Shape.{slots-long}
@@ -51,12 +51,18 @@ module _ (q : Queue) where
       let k : q .count ≤ length (q .slots) = omega arith in
       length-map (used q) octetsOf ∙ length-take-le (q .count) (q .slots) k
 
--- an empty queue
-pub empty-formed : (q : Queue) → q .count ≡ 0 → formed q ≡ true
+-- a queue that holds nothing: a fresh one, one that was emptied, one of a link at rest
+pub empty-formed : (q : Queue) → held q ≡ 0 → formed q ≡ true
 empty-formed q e = is-formed q (rw e zero-le) (rw e)
 
--- of a queue that is owned, as many payloads as the count says
-pub length-owned : (q : Queue) (vs : List Val) → Is Q.the-row q vs → formed q ≡ true → length (payloads q) ≡ q .count
+pub emptied-formed : (q : Queue) → formed (emptied q) ≡ true
+emptied-formed q = empty-formed (emptied q) refl
+
+pub rest-held : (q : Queue) → atRest q ≡ true → held q ≡ 0
+rest-held q e = eqb-true (held q) 0 e
+
+-- of a queue that is owned, as many payloads as it says that it holds
+pub length-owned : (q : Queue) (vs : List Val) → Is Q.the-row q vs → formed q ≡ true → length (payloads q) ≡ held q
 length-owned q vs g e = length-payloads q (slots-long q vs g) (formed-count q e)
 
 -- the queue after push, in its three cases
@@ -117,21 +123,21 @@ module _ (q : Queue) (n : ℕ) where
 
 -- what a caller learns of a queue that it pushed to or removed from
 module _ (q r : Queue) (ok : formed q ≡ true) where
-  pub push-count : (p : List ℕ) → q .count < slots → length p ≤ maxPayload → Pushed q p r → r .count ≡ q .count + 1
-  push-count p h k m = m .count (rw (lt-ltb _ _ h, le-leb _ _ k))
+  pub push-held : (p : List ℕ) → held q < slots → length p ≤ maxPayload → Pushed q p r → held r ≡ held q + 1
+  push-held p h k m = m .count (rw (lt-ltb _ _ h, le-leb _ _ k))
 
-  pub push-payloads : (p : List ℕ) → q .count < slots → length p ≤ maxPayload → Pushed q p r → payloads r ≡ payloads q ++ (p ∷ [])
+  pub push-payloads : (p : List ℕ) → held q < slots → length p ≤ maxPayload → Pushed q p r → payloads r ≡ payloads q ++ (p ∷ [])
   push-payloads p h k m = m .queue (rw (lt-ltb _ _ h, le-leb _ _ k))
 
-  pub push-formed : (p : List ℕ) → q .count < slots → length p ≤ maxPayload → Pushed q p r → formed r ≡ true
+  pub push-formed : (p : List ℕ) → held q < slots → length p ≤ maxPayload → Pushed q p r → formed r ≡ true
   push-formed p h k m = m .formed (rw (lt-ltb _ _ h, le-leb _ _ k)) ∙ ok
 
-  module _ (n : ℕ) (h : n ≤ q .count) (m : Removed q n r) where
+  module _ (n : ℕ) (h : n ≤ held q) (m : Removed q n r) where
     oldest : hasOldest q n ≡ true
     oldest = rw (le-leb _ _ (formed-count q ok), le-leb _ _ h)
 
-    pub remove-count : r .count ≡ q .count - n
-    remove-count = m .count oldest
+    pub remove-held : held r ≡ held q - n
+    remove-held = m .count oldest
 
     remove-used : used r ≡ drop n (used q)
     remove-used = m .used oldest
@@ -141,4 +147,4 @@ module _ (q r : Queue) (ok : formed q ≡ true) where
 
     pub remove-formed : formed r ≡ true
     remove-formed =
-        is-formed r (omega (arith, remove-count, formed-count q ok)) (ap allShort remove-used ∙ short-drop n (used q) (formed-short q ok))
+        is-formed r (omega (arith, remove-held, formed-count q ok)) (ap allShort remove-used ∙ short-drop n (used q) (formed-short q ok))

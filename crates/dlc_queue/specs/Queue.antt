@@ -2,15 +2,20 @@
 -- Cited by dlc_queue's functions and by the specs of the link. Assumes nothing.
 --
 --   payloads q     the payloads that a queue holds; octets past a payload's length and slots past the count are free, and no part of it
---   formed q       whether a queue value is one: at most 7 payloads, none over 256 octets
+--   held q         how many they are
+--   formed q       whether a queue value is one: as many payloads as there are slots at most, none over 256 octets
+--   atRest q       whether it is such as a link has that was not opened yet
+--   fresh, emptied q            an empty queue, and one that holds nothing any more
 --   Pushed q p, Removed q n     what push and remove make of it
+--
+-- The link speaks of a queue by these names, and of no field of it.
 use Prim.Native.Nat.{ℕ, _+_, _-_, _*_}
 use mathlib.Core.Path.{_≡_}
 use mathlib.Core.Bool.{Bool, true, false, _&&_}
 use mathlib.Core.List.{List, [], _∷_, _++_, map}
-use lib.ListN.{length, take, drop}
-use lib.Dec.{leb, ltb}
-use Rattle.dlc_packet.specs.Packet.{maxPayload}
+use lib.ListN.{length, take, drop, replicate}
+use lib.Dec.{leb, ltb, eqb}
+use Rattle.dlc_packet.specs.Packet.{maxPayload, maxPacket}
 use Rattle.dlc_queue.specs.declared.Payload.{Payload}
 use Rattle.dlc_queue.specs.declared.Queue.{Queue}
 
@@ -20,7 +25,7 @@ slots = 7
 
 -- octets of a reply buffer: room for a full queue of the longest payloads, each with its control octet
 abbrev pub replySize : ℕ
-replySize = slots * (maxPayload + 1)
+replySize = slots * maxPacket
 
 -- the octets of one slot
 abbrev pub octetsOf : Payload → List ℕ
@@ -34,6 +39,10 @@ used q = take (q .count) (q .slots)
 abbrev pub payloads : Queue → List (List ℕ)
 payloads q = map octetsOf (used q)
 
+-- how many payloads are queued
+abbrev pub held : Queue → ℕ
+held q = q .count
+
 -- no payload is over 256 octets
 abbrev pub allShort : List Payload → Bool
 allShort [] = true
@@ -42,6 +51,21 @@ allShort (p ∷ ps) = leb (p .len) maxPayload && allShort ps
 -- a queue value that can be: count and lengths within their limits; the length of a free slot may be anything
 unfoldable pub formed : Queue → Bool
 formed q = leb (q .count) slots && allShort (used q)
+
+-- the queue of a link in DLIDLE or DLRESET: nothing is queued
+abbrev pub atRest : Queue → Bool
+atRest q = eqb (held q) 0
+
+-- an empty queue, its slots all 0
+abbrev pub free : Payload
+free = record { len = 0; octets = replicate maxPayload 0 }
+
+abbrev pub fresh : Queue
+fresh = record { count = 0; slots = replicate slots free }
+
+-- "queue emptied": every slot is free
+abbrev pub emptied : Queue → Queue
+emptied q = record { count = 0; slots = q .slots }
 
 -- whether one payload more can be queued
 abbrev pub hasRoom : Queue → List ℕ → Bool

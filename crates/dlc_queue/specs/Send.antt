@@ -3,19 +3,14 @@
 use Prim.Native.Nat.{ℕ}
 use mathlib.Core.Path.{_≡_}
 use mathlib.Core.Bool.{cond, _&&_}
-use mathlib.Core.List.{List, [], _∷_, map, flatten}
+use mathlib.Core.List.{List, [], map, flatten}
 use lib.ListN.{length, replicate}
 use lib.Dec.{leb, ltb}
 use Rattle.common.specs.Buffer.{withFront}
-use Rattle.dlc_packet.specs.Numbers.{modulus, advance}
-use Rattle.dlc_packet.specs.Packet.{dataPacket}
+use Rattle.dlc_packet.specs.Numbers.{modulus}
+use Rattle.dlc_packet.specs.Packet.{dataPackets}
 use Rattle.dlc_queue.specs.declared.Queue.{Queue}
 use Rattle.dlc_queue.specs.Queue.{slots, replySize, payloads, formed}
-
--- DATA packets of the payloads ps, with the numbers from x on
-abbrev pub dataPackets : ℕ → List (List ℕ) → List (List ℕ)
-dataPackets x [] = []
-dataPackets x (p ∷ ps) = dataPacket x p ∷ dataPackets (advance x 1) ps
 
 -- an answer's lengths: one for each packet sent, then 0 up to the number of slots
 abbrev pub lengthsOf : List (List ℕ) → List ℕ

@@ -1,16 +1,17 @@
-// The queue of a DLC link: at most 7 payloads of at most 256 octets, oldest first, by value.
+// The queue of a DLC link: at most SLOTS payloads of at most 256 octets, oldest first, by value.
 // Definitions: specs/. Every public function takes any queue value whatever, also one that no call has made.
 ghost use mathlib.Core.Path.{_≡_};
 ghost use mathlib.Core.Bool.{true};
-ghost use mathlib.Core.List.{[], map};
+ghost use mathlib.Core.List.{map};
 ghost use Prim.Native.Nat.{_+_, _-_, _≤_, _<_};
 ghost use lib.ListN.{length, take, drop};
 ghost use lib.Seq.{sets};
 ghost use Rattle.dlc_packet.specs.Numbers.{modulus};
-ghost use Rattle.dlc_packet.specs.Packet.{maxPayload, dataPacket};
-ghost use Rattle.dlc_queue.specs.Queue.{slots, replySize, octetsOf, payloads, allShort, formed, Pushed, Removed};
-ghost use Rattle.dlc_queue.specs.Send.{dataPackets, Sent, Written};
+ghost use Rattle.dlc_packet.specs.Packet.{maxPayload, dataPacket, dataPackets};
+ghost use Rattle.dlc_queue.specs.Queue.{slots, replySize, octetsOf, held, allShort, formed, atRest, fresh, emptied, Pushed, Removed};
+ghost use Rattle.dlc_queue.specs.Send.{Sent, Written};
 use dlc_packet::DATA;
+use dlc_packet::MAX_PACKET;
 use dlc_packet::MAX_PAYLOAD;
 use dlc_packet::MODULUS;
 
@@ -32,11 +33,11 @@ impl Queue {
     pub const SLOTS: usize = 7;
 
     // Octets that all slots take as DATA packets: what a reply buffer must have.
-    pub const REPLY_SIZE: usize = Queue::SLOTS * (MAX_PAYLOAD + 1);
+    pub const REPLY_SIZE: usize = Queue::SLOTS * MAX_PACKET;
 
     // An empty queue.
     pub fn new() -> Self
-        ensures { λ r. ⌜ (r .count ≡ 0) × (payloads r ≡ []) ⌝ }
+        ensures { λ r. ⌜ r ≡ fresh ⌝ }
     {
         let p = Payload {
             len: 0,
@@ -46,6 +47,29 @@ impl Queue {
             count: 0,
             slots: [p; Queue::SLOTS],
         }
+    }
+
+    // How many payloads it holds.
+    pub fn len(self) -> usize
+        ensures { λ r. ⌜ r ≡ held self ⌝ }
+    {
+        let held = self.count;
+        held
+    }
+
+    // Whether this may be the queue of a link that was not opened yet: it holds nothing.
+    pub fn at_rest(self) -> bool
+        ensures { λ r. ⌜ r ≡ atRest self ⌝ }
+    {
+        self.count == 0
+    }
+
+    // Frees all slots, whatever they hold.
+    pub fn emptied(mut self) -> Queue
+        ensures { λ r. ⌜ r ≡ emptied self ⌝ }
+    {
+        self.count = 0;
+        self
     }
 
     // Whether this is a queue: count and lengths within their limits.

@@ -6,7 +6,7 @@ ghost use Rattle.qaft_write.specs.Write.{writeFrame};
 ghost use Rattle.qaft_read.specs.State.{fresh};
 ghost use Rattle.qaft_read.specs.Read.{read};
 ghost use Rattle.qaft_plain.specs.Plain.{readerOf, plainOf, answerOf};
-ghost use Rattle.dlc.specs.Model.{fresh as freshLink};
+ghost use Rattle.dlc_table.specs.Model.{fresh as freshLink};
 ghost use Rattle.dlc.specs.Calls.{StartCall, TimerCall, PayloadCall, ArrivalCall};
 ghost use Rattle.dlc_plain.specs.Plain.{view};
 ghost use Rattle.sums.specs.Sum.{sumFrom, nextStationSum, headerSum};

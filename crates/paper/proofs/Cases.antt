@@ -13,7 +13,7 @@ use Rattle.line.specs.Scan.{after, scanOn, scan}
 use Rattle.qaft_read.specs.State.{malformed}
 use Rattle.qaft_read.specs.Step.{action}
 use Rattle.qaft_read.specs.Read.{outcomeOf, callOf, scanCall, refusals, read}
-use Rattle.dlc.specs.Events.{arrivalOf}
+use Rattle.dlc_table.specs.Events.{arrivalOf}
 use Rattle.fcs.specs.Fcs.{feedBit, feedBits, feed, feedAll, checkSequence}
 use Rattle.ids.specs.Id.{validId, validSuffix, callsignLength, allGraphic, isCallsign, isGraphic}
 use Rattle.sums.specs.Sum.{sumFrom, nextStationSum, headerSum}

@@ -5,11 +5,12 @@ use mathlib.Core.Bool.{true, false}
 use mathlib.Core.List.{List, [], _∷_, _++_}
 use lib.ListN.{replicate}
 use Rattle.framing.specs.Reports.{reportsOf}
-use Rattle.dlc.specs.declared.State.the-variants.{Data, Wait}
-use Rattle.dlc.specs.Limits.{replySize, dackPacket}
-use Rattle.dlc.specs.Answers.{done, noEntry}
-use Rattle.dlc.specs.Model.{Model}
-use Rattle.dlc.specs.Events.{Effect, effect, refuse, arrivalOf}
+use Rattle.dlc_packet.specs.Packet.{dackPacket}
+use Rattle.dlc_table.specs.declared.State.the-variants.{Data, Wait}
+use Rattle.dlc_table.specs.Answers.{done, noEntry}
+use Rattle.dlc_table.specs.Model.{Model, rebuilt, opened}
+use Rattle.dlc_table.specs.Events.{Effect, effect, refuse, arrivalOf}
+use Rattle.dlc_queue.specs.Queue.{slots, replySize}
 use Rattle.sums.specs.Sum.{sumFrom}
 use Rattle.afp_write.specs.Frame.{frameOf}
 use Rattle.qaft.specs.Escape.{flag}
@@ -50,7 +51,7 @@ between s = flag ∷ s ++ (flag ∷ [])
 abbrev pub Holds : Case → Type 0
 Holds (frames level d l) = (frame level false d ≡ l) × Reads level l answers.frame d
 Holds (reports s p n) = (reportsOf (rules 0) (between s) ≡ record { report = p; octets = [] } ∷ []) × Reads 0 (between s) n []
-Holds (arrives m packet e) = arrivalOf m packet replySize ≡ e
+Holds (arrives m packet e) = arrivalOf slots m packet replySize ≡ e
 Holds (sums xs s) = sumFrom 0 xs ≡ s
 Holds (heads p s n h header check) = frameOf p s n h [] ≡ header ++ check
 
@@ -61,11 +62,11 @@ Each (k ∷ ks) = Holds k × Each ks
 
 -- "DLDWAIT, numbers 14 and 15 queued"
 abbrev pub waiting : Model
-waiting = record { ok = true; state = Wait; queue = (1 ∷ []) ∷ (2 ∷ []) ∷ []; base = 14; expected = 0 }
+waiting = rebuilt opened Wait ((1 ∷ []) ∷ (2 ∷ []) ∷ []) 14 0
 
 -- the same link with its queue emptied
 abbrev pub emptied : Model
-emptied = record { ok = true; state = Data; queue = []; base = 0; expected = 0 }
+emptied = rebuilt waiting Data [] 0 0
 
 -- "Worked on paper", in the paper's order
 unfoldable pub table : List Case

@@ -13,8 +13,9 @@ use Rattle.window.specs.Ends.{Rules, Sender, End, applyDack}
 use Rattle.window.specs.Events.{offer, timeout, receive, lose, start, loseAt, run, Drained}
 use Rattle.window.specs.Claim.{exchange}
 
+-- a window that is large enough for the runs below
 abbrev rules : Rules
-rules = record { window = 7; atOnce = false; dackNumber = dackNumber; distance = distance }
+rules = record { window = 2; atOnce = false; dackNumber = dackNumber; distance = distance }
 
 pub erased : eraseAt {A = ℕ} 1 (5 ∷ 6 ∷ 7 ∷ []) ≡ 5 ∷ 7 ∷ []
 erased = refl

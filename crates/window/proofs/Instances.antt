@@ -32,9 +32,9 @@ through-distance b k h l = omega arith
 pub through-lawful : (w : ℕ) (once : Bool) → w < modulus → Lawful (through w once)
 through-lawful w once h = record { below = h; distance = through-distance }
 
--- seven slots as in the paper; fifteen, payloads sent at once, and the other DACK
-pub seven : (es : List Event) → SlidingWindow (expecting 7 false) es
-seven es = sliding-window (expecting 7 false) (expecting-lawful 7 false (omega arith)) es
+-- three slots and the paper's DACK; fifteen, payloads sent at once, and the other DACK
+pub three : (es : List Event) → SlidingWindow (expecting 3 false) es
+three es = sliding-window (expecting 3 false) (expecting-lawful 3 false (omega arith)) es
 
 pub fifteen : (es : List Event) → SlidingWindow (through 15 true) es
 fifteen es = sliding-window (through 15 true) (through-lawful 15 true (omega arith)) es
@@ -55,11 +55,11 @@ tight w =
     ++ times (w - 1) left (receive true)
     ++ (at left (timeout true) ∷ [])
 
-pub tight-sent : run (expecting 7 false) (tight 7) start .left .sender .sent ≡ 7 + 7 * run (expecting 7 false) (tight 7) start .left .sender .lost
+pub tight-sent : run (expecting 3 false) (tight 3) start .left .sender .sent ≡ 3 + 3 * run (expecting 3 false) (tight 3) start .left .sender .lost
 tight-sent = refl
 
-pub tight-waits : TimerWaits (expecting 7 false) left (tight 7) start
-tight-waits = timerWaits-true (expecting 7 false) left (tight 7) start tt
+pub tight-waits : TimerWaits (expecting 3 false) left (tight 3) start
+tight-waits = timerWaits-true (expecting 3 false) left (tight 3) start tt
 
 -- with fifteen slots it is fifteen for each lost
 pub tight-fifteen : run (expecting 15 false) (tight 15) start .left .sender .sent ≡ 15 + 15 * run (expecting 15 false) (tight 15) start .left .sender .lost

@@ -5,12 +5,13 @@ use mathlib.Core.Bool.{true}
 use lib.ListN.{length}
 use denote.Ref.{now}
 use Rattle.dlc_packet.specs.declared.Kind.{Kind}
-use Rattle.dlc_queue.specs.Queue.{replySize}
-use Rattle.dlc.specs.Answers.{badPacket}
-use Rattle.dlc.specs.Model.{wellFormed, view}
-use Rattle.dlc.specs.Events.{arrivalOf, packetStep}
-use Rattle.dlc.proofs.Refusals.{call-ok, call-room, arrival-refused, arrival-step}
-use Rattle.dlc.proofs.Outcomes.{refused-meets, meets-by, silent-meets, reset-ack-silent, dack-silent}
+use Rattle.dlc_queue.specs.Queue.{slots, replySize}
+use Rattle.dlc_table.specs.Answers.{badPacket}
+use Rattle.dlc.specs.View.{wellFormed, view}
+use Rattle.dlc_table.specs.Events.{arrivalOf, packetStep}
+use Rattle.dlc_table.proofs.Refusals.{call-ok, call-room, arrival-refused, arrival-step}
+use Rattle.dlc_table.proofs.Rows.{reset-ack-silent, dack-silent}
+use Rattle.dlc.proofs.Outcomes.{refused-meets, meets-by, silent-meets}
 use borrow.Author.Needs.{needs}
 use Rattle.dlc.proofs.Link.arrival.Statement.{statement}
 use Rattle.dlc.proofs.Link.arrival.Tie as tie
@@ -20,16 +21,16 @@ abbrev S : tie.Else1 → tie.Start
 S c = c .before .before .before .before
 
 ok : (c : tie.Else1) → wellFormed (S c .args .self) ≡ true
-ok c = call-ok (view (S c .args .self)) (length (now (S c .args .reply))) (c .before .refusal .result) (c .before .refusal .ensures) (c .if1 .left)
+ok c = call-ok slots (view (S c .args .self)) (length (now (S c .args .reply))) (c .before .refusal .result) (c .before .refusal .ensures) (c .if1 .left)
 
 room : (c : tie.Else1) → replySize ≤ length (now (S c .args .reply))
-room c = call-room (view (S c .args .self)) (length (now (S c .args .reply))) (c .before .refusal .result) (c .before .refusal .ensures) (c .if1 .left)
+room c = call-room slots (view (S c .args .self)) (length (now (S c .args .reply))) (c .before .refusal .result) (c .before .refusal .ensures) (c .if1 .left)
 
 row : (c : tie.After-kind-of) {k : Kind} → c .kind-of .result ≡ k
-    → arrivalOf (view (S (c .before) .args .self)) (now (S (c .before) .args .packet)) (length (now (S (c .before) .args .reply))) ≡ packetStep (view (S (c .before) .args .self)) k
+    → arrivalOf slots (view (S (c .before) .args .self)) (now (S (c .before) .args .packet)) (length (now (S (c .before) .args .reply))) ≡ packetStep (view (S (c .before) .args .self)) k
 row c {k} e =
     let b = c .before in
-    arrival-step (view (S b .args .self)) (length (now (S b .args .reply))) (b .before .refusal .result) (b .before .refusal .ensures) (b .if1 .left) (now (S b .args .packet)) k (sym (c .kind-of .ensures) ∙ e)
+    arrival-step slots (view (S b .args .self)) (length (now (S b .args .reply))) (b .before .refusal .result) (b .before .refusal .ensures) (b .if1 .left) (now (S b .args .packet)) k (sym (c .kind-of .ensures) ∙ e)
 
 refusal-requires : tie.Need-refusal-requires
 refusal-requires c κs = tt
@@ -38,7 +39,7 @@ silent-requires : tie.Need-silent-requires
 silent-requires c κs = tt
 
 returns : tie.Need-returns
-returns c = refused-meets _ _ (c .before .before .refusal .result) _ _ (arrival-refused (view (c .before .before .before .before .before .args .self)) (length (now (c .before .before .before .before .before .args .reply))) (c .before .before .refusal .result) (c .before .before .refusal .ensures) (c .before .if1 .taken) (now (c .before .before .before .before .before .args .packet))) (c .silent .ensures)
+returns c = refused-meets _ _ (c .before .before .refusal .result) _ _ (arrival-refused slots (view (c .before .before .before .before .before .args .self)) (length (now (c .before .before .before .before .before .args .reply))) (c .before .before .refusal .result) (c .before .before .refusal .ensures) (c .before .if1 .taken) (now (c .before .before .before .before .before .args .packet))) (c .silent .ensures)
 
 kind-of-requires : tie.Need-kind-of-requires
 kind-of-requires c κs = tt

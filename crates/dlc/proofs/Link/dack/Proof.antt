@@ -1,9 +1,9 @@
 -- `Link::dack`: a row of the table. Assumes nothing.
 use mathlib.Core.Path.{ap}
-use Rattle.dlc.specs.Answers.{noEntry}
-use Rattle.dlc.specs.declared.State.{State}
-use Rattle.dlc.specs.Model.{view}
-use Rattle.dlc.specs.Events.{dackStep}
+use Rattle.dlc_table.specs.Answers.{noEntry}
+use Rattle.dlc_table.specs.declared.State.{State}
+use Rattle.dlc.specs.View.{view}
+use Rattle.dlc_table.specs.Events.{dackStep}
 use Rattle.dlc.proofs.Outcomes.{refused-returns, returns-by}
 use borrow.Author.Needs.{needs}
 use Rattle.dlc.proofs.Link.dack.Statement.{statement}

@@ -1,8 +1,9 @@
 -- `Link::data`: a row of the table: open states judge. Assumes nothing.
 use mathlib.Core.Path.{sym, _∙_}
-use Rattle.dlc.specs.Answers.{noEntry}
-use Rattle.dlc.specs.Model.{view}
-use Rattle.dlc.proofs.Outcomes.{refused-meets, meets-by, data-open, data-closed}
+use Rattle.dlc_table.specs.Answers.{noEntry}
+use Rattle.dlc.specs.View.{view}
+use Rattle.dlc_table.proofs.Rows.{data-open, data-closed}
+use Rattle.dlc.proofs.Outcomes.{refused-meets, meets-by}
 use borrow.Author.Needs.{needs}
 use Rattle.dlc.proofs.Link.data.Statement.{statement}
 use Rattle.dlc.proofs.Link.data.Tie as tie

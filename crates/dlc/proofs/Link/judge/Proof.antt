@@ -1,13 +1,14 @@
 -- `Link::judge`: the expected number, or another. Assumes nothing.
-use Prim.Native.Nat.{ℕ, _+_}
+use Prim.Native.Nat.{ℕ}
 use mathlib.Core.Path.{_≡_, refl, sym, ap, _∙_}
-use mathlib.Core.List.{[], _∷_}
+use mathlib.Core.List.{List, [], _∷_}
 use Rattle.dlc_packet.specs.Numbers.{advance, dackNumber}
-use Rattle.dlc_packet.specs.Packet.{dackOctet}
-use Rattle.dlc.specs.Model.{view}
+use Rattle.dlc_packet.specs.Packet.{dackPacket}
+use Rattle.dlc.specs.View.{view, relinked}
 use Rattle.dlc.proofs.Parts.{parts}
 use Rattle.dlc.proofs.Views.{view-expectNext}
-use Rattle.dlc.proofs.Outcomes.{one-meets, meets-by, judged-same, judged-other, taken, other}
+use Rattle.dlc_table.proofs.Rows.{judged-same, judged-other, taken, other}
+use Rattle.dlc.proofs.Outcomes.{one-meets, meets-by}
 use native.Mathlib.Omega.{arith}
 use borrow.Author.Needs.{needs}
 use Rattle.dlc.proofs.Link.judge.Statement.{statement}
@@ -22,8 +23,8 @@ dack-number-requires c κs = tt
 add-dack : tie.Need-add-dack
 add-dack c = omega (arith, c .dack-number .ensures, c .before .advanced .ensures)
 
-send-one-requires : tie.Need-send-one-requires
-send-one-requires c κs = omega (arith, c .before .before .before .before .before .pre .1 .1)
+send-control-requires : tie.Need-send-control-requires
+send-control-requires c κs = omega (arith, c .before .before .before .before .before .pre .1 .1)
 
 dack-number-requires-2 : tie.Need-dack-number-requires-2
 dack-number-requires-2 c κs = tt
@@ -31,8 +32,8 @@ dack-number-requires-2 c κs = tt
 add-dack-2 : tie.Need-add-dack-2
 add-dack-2 c = omega (arith, c .dack-number2 .ensures, parts (c .before .before .before .args .self) (c .before .before .before .pre .0) .expected)
 
-send-one-requires-2 : tie.Need-send-one-requires-2
-send-one-requires-2 c κs = omega (arith, c .before .before .before .before .pre .1 .1)
+send-control-requires-2 : tie.Need-send-control-requires-2
+send-control-requires-2 c κs = omega (arith, c .before .before .before .before .pre .1 .1)
 
 same-length : tie.Need-same-length
 same-length c = search needs
@@ -41,10 +42,10 @@ returns : tie.Need-returns
 returns c =
     let l = c .before .before .before .before .before .before .before .before .args .self in
     let e : c .before .before .before .before .before .advanced .result ≡ advance (l .expected) 1 = c .before .before .before .before .before .advanced .ensures in
-    let d : dackOctet + c .before .before .before .before .dack-number .result ≡ dackOctet + dackNumber (advance (l .expected) 1) = ap (λ (n : ℕ). dackOctet + n) (c .before .before .before .before .dack-number .ensures ∙ e) in
+    let d : dackPacket (c .before .before .before .before .dack-number .result) ≡ dackPacket (dackNumber (advance (l .expected) 1)) = ap dackPacket (c .before .before .before .before .dack-number .ensures ∙ e) in
     meets-by (judged-same (view l) (c .before .before .before .before .before .before .before .before .args .x) (c .before .before .before .before .before .before .if1 .taken))
-    (one-meets (taken (view l)) l (record { state = l .state; queue = l .queue; base = l .base; expected = c .before .before .before .before .before .advanced .result }) (dackOctet + c .before .before .before .before .dack-number .result) _ _ _ refl
-    (ap (λ (n : ℕ). (n ∷ []) ∷ []) (sym d)) (view-expectNext l (c .before .before .before .before .before .before .before .before .pre .0) (c .before .before .before .before .before .advanced .result) (c .before .before .before .before .before .before .before .before .pre .1 .0) e) (c .before .before .send-one .ensures))
+    (one-meets (taken (view l)) l (relinked l (l .state) (l .queue) (l .base) (c .before .before .before .before .before .advanced .result)) (dackPacket (c .before .before .before .before .dack-number .result)) _ _ _ refl
+    (ap (λ (p : List ℕ). p ∷ []) (sym d)) (view-expectNext l (c .before .before .before .before .before .before .before .before .pre .0) (c .before .before .before .before .before .advanced .result) (c .before .before .before .before .before .before .before .before .pre .1 .0) e) (c .before .before .send-control .ensures))
 
 same-length-2 : tie.Need-same-length-2
 same-length-2 c = search needs
@@ -52,10 +53,10 @@ same-length-2 c = search needs
 returns-2 : tie.Need-returns-2
 returns-2 c =
     let l = c .before .before .before .before .before .before .before .args .self in
-    let d : dackOctet + c .before .before .before .before .dack-number2 .result ≡ dackOctet + dackNumber (l .expected) = ap (λ (n : ℕ). dackOctet + n) (c .before .before .before .before .dack-number2 .ensures) in
+    let d : dackPacket (c .before .before .before .before .dack-number2 .result) ≡ dackPacket (dackNumber (l .expected)) = ap dackPacket (c .before .before .before .before .dack-number2 .ensures) in
     meets-by (judged-other (view l) (c .before .before .before .before .before .before .before .args .x) (c .before .before .before .before .before .if1 .left))
-    (one-meets (other (view l)) l l (dackOctet + c .before .before .before .before .dack-number2 .result) _ _ _ refl
-    (ap (λ (n : ℕ). (n ∷ []) ∷ []) (sym d)) refl (c .before .before .send-one2 .ensures))
+    (one-meets (other (view l)) l l (dackPacket (c .before .before .before .before .dack-number2 .result)) _ _ _ refl
+    (ap (λ (p : List ℕ). p ∷ []) (sym d)) refl (c .before .before .send-control2 .ensures))
 
 pub judge-spec : {M : Type 1} → statement M
 judge-spec =
@@ -64,10 +65,10 @@ judge-spec =
     advanced-requires
     dack-number-requires
     add-dack
-    send-one-requires
+    send-control-requires
     dack-number-requires-2
     add-dack-2
-    send-one-requires-2
+    send-control-requires-2
     same-length
     returns
     same-length-2

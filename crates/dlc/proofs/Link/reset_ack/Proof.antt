@@ -1,10 +1,11 @@
 -- `Link::reset_ack`: a row of the table. Assumes nothing.
 use mathlib.Core.Path.{ap, _∙_}
-use Rattle.dlc.specs.Answers.{noEntry}
-use Rattle.dlc.specs.declared.State.{State}
-use Rattle.dlc.specs.declared.State.the-variants.{Data}
-use Rattle.dlc.specs.Model.{view}
-use Rattle.dlc.specs.Events.{inState, resetAckStep}
+use Rattle.dlc_table.specs.Answers.{noEntry}
+use Rattle.dlc_table.specs.declared.State.{State}
+use Rattle.dlc_table.specs.declared.State.the-variants.{Data}
+use Rattle.dlc.specs.View.{view}
+use Rattle.dlc_table.specs.Model.{inState}
+use Rattle.dlc_table.specs.Events.{resetAckStep}
 use Rattle.dlc.proofs.Parts.{parts, reset-fits}
 use Rattle.dlc.proofs.Views.{view-inState}
 use Rattle.dlc.proofs.Outcomes.{refused-returns, done-returns}
@@ -46,7 +47,7 @@ returns-2 : tie.Need-returns-2
 returns-2 c =
     let l = c .before .before .before .before .args .self in
     let e = c .before .before .enum-told2 .given .1 in
-    let v = ap view (c .before .in-state .ensures) ∙ view-inState l (c .before .before .before .before .pre) Data (reset-fits (l .state) (l .queue .count) (l .base) (l .expected) e (parts l (c .before .before .before .before .pre) .state)) in
+    let v = ap view (c .before .in-state .ensures) ∙ view-inState l (c .before .before .before .before .pre) Data (reset-fits l e (parts l (c .before .before .before .before .pre) .state)) in
     done-returns _ l (c .before .in-state .result) (inState Data (view l)) _ (ap (λ (s : State). resetAckStep (view l) s) e) v (c .silent2 .ensures)
 
 returns-3 : tie.Need-returns-3

@@ -9,13 +9,20 @@ use Rattle.dlc.proofs.Link.send_all.Tie as tie
 send-requires : tie.Need-send-requires
 send-requires c κs = tt
 
+len-requires : tie.Need-len-requires
+len-requires c κs = tt
+
 same-length : tie.Need-same-length
 same-length c = search needs
 
 returns : tie.Need-returns
 returns c =
-    let l = c .before .before .before .before .before .before .args .self in
-    all-meets l (now (c .before .before .before .before .before .before .args .reply)) _ (c .before .before .send .result) (c .before .before .before .before .before .before .pre .0) (length-queue l _ (c .before .before .before .before .before .before .good .0) (c .before .before .before .before .before .before .pre .0)) (c .before .before .before .before .before .before .pre .1) (c .before .before .send .ensures)
+    let sent = c .before .before .before .send in
+    let s = c .before .before .before .before .before .before .before in
+    let l = s .args .self in
+    let before = now (s .args .reply) in
+    let counted = length-queue l _ (s .good .0) (s .pre .0) in
+    rw (c .len .ensures) (all-meets l before _ (sent .result) (s .pre .0) counted (s .pre .1) (sent .ensures))
 
 pub send-all-spec : {M : Type 1} → statement M
-send-all-spec = tie.close (tie.spec send-requires same-length returns)
+send-all-spec = tie.close (tie.spec send-requires len-requires same-length returns)

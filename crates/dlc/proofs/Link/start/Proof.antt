@@ -3,14 +3,16 @@ use mathlib.Core.Path.{_≡_, ap, _∙_}
 use mathlib.Core.Bool.{true}
 use lib.ListN.{length}
 use denote.Ref.{now}
-use Rattle.dlc.specs.Answers.{noEntry}
-use Rattle.dlc.specs.declared.State.{State}
-use Rattle.dlc.specs.declared.State.the-variants.{Reset}
-use Rattle.dlc.specs.Model.{wellFormed, view}
-use Rattle.dlc.specs.Events.{inState, startOf, startStep}
+use Rattle.dlc_table.specs.Answers.{noEntry}
+use Rattle.dlc_table.specs.declared.State.{State}
+use Rattle.dlc_table.specs.declared.State.the-variants.{Reset}
+use Rattle.dlc_queue.specs.Queue.{slots}
+use Rattle.dlc.specs.View.{wellFormed, view}
+use Rattle.dlc_table.specs.Model.{inState}
+use Rattle.dlc_table.specs.Events.{startOf, startStep}
 use Rattle.dlc.proofs.Parts.{parts, idle-fits}
 use Rattle.dlc.proofs.Views.{view-inState}
-use Rattle.dlc.proofs.Refusals.{call-ok, start-refused, start-step}
+use Rattle.dlc_table.proofs.Refusals.{call-ok, start-refused, start-step}
 use Rattle.dlc.proofs.Outcomes.{refused-meets, done-meets}
 use borrow.Author.Needs.{needs}
 use Rattle.dlc.proofs.Link.start.Statement.{statement}
@@ -18,11 +20,11 @@ use Rattle.dlc.proofs.Link.start.Tie as tie
 
 -- past the shared refusals the link is well formed, and the row of its state decides
 ok : (c : tie.Else1) → wellFormed (c .before .before .before .args .self) ≡ true
-ok c = call-ok (view (c .before .before .before .args .self)) (length (now (c .before .before .before .args .reply))) (c .before .refusal .result) (c .before .refusal .ensures) (c .if1 .left)
+ok c = call-ok slots (view (c .before .before .before .args .self)) (length (now (c .before .before .before .args .reply))) (c .before .refusal .result) (c .before .refusal .ensures) (c .if1 .left)
 
 row : (c : tie.Else1) {s : State} → c .before .before .before .args .self .state ≡ s
-    → startOf (view (c .before .before .before .args .self)) (length (now (c .before .before .before .args .reply))) ≡ startStep (view (c .before .before .before .args .self)) s
-row c {s} e = start-step (view (c .before .before .before .args .self)) (length (now (c .before .before .before .args .reply))) (c .before .refusal .result) (c .before .refusal .ensures) (c .if1 .left) s e
+    → startOf slots (view (c .before .before .before .args .self)) (length (now (c .before .before .before .args .reply))) ≡ startStep (view (c .before .before .before .args .self)) s
+row c {s} e = start-step slots (view (c .before .before .before .args .self)) (length (now (c .before .before .before .args .reply))) (c .before .refusal .result) (c .before .refusal .ensures) (c .if1 .left) s e
 
 refusal-requires : tie.Need-refusal-requires
 refusal-requires c κs = tt
@@ -31,7 +33,7 @@ silent-requires : tie.Need-silent-requires
 silent-requires c κs = tt
 
 returns : tie.Need-returns
-returns c = refused-meets _ _ (c .before .before .refusal .result) _ _ (start-refused (view (c .before .before .before .before .args .self)) (length (now (c .before .before .before .before .args .reply))) (c .before .before .refusal .result) (c .before .before .refusal .ensures) (c .before .if1 .taken)) (c .silent .ensures)
+returns c = refused-meets _ _ (c .before .before .refusal .result) _ _ (start-refused slots (view (c .before .before .before .before .args .self)) (length (now (c .before .before .before .before .args .reply))) (c .before .before .refusal .result) (c .before .before .refusal .ensures) (c .before .if1 .taken)) (c .silent .ensures)
 
 enum-told : tie.Need-enum-told
 enum-told c = search needs
@@ -65,7 +67,7 @@ returns-2 c =
     let l = c .before .before .before .before .before .before .before .args .self in
     let e = c .before .before .enum-told .given .1 in
     let w = ok (c .before .before .before .before) in
-    let v = ap view (c .before .in-state .ensures) ∙ view-inState l w Reset (idle-fits (l .state) (l .queue .count) (l .base) (l .expected) e (parts l w .state)) in
+    let v = ap view (c .before .in-state .ensures) ∙ view-inState l w Reset (idle-fits l e (parts l w .state)) in
     done-meets _ l (c .before .in-state .result) (inState Reset (view l)) _ _ (row (c .before .before .before .before) e) v (c .silent2 .ensures)
 
 returns-3 : tie.Need-returns-3

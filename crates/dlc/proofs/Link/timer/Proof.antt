@@ -4,14 +4,14 @@ use mathlib.Core.Path.{_≡_, refl}
 use mathlib.Core.Bool.{true}
 use lib.ListN.{length}
 use denote.Ref.{now}
-use Rattle.dlc_packet.specs.Packet.{resetOctet}
-use Rattle.dlc_queue.specs.Queue.{replySize}
-use Rattle.dlc.specs.Answers.{noEntry}
-use Rattle.dlc.specs.declared.State.{State}
-use Rattle.dlc.specs.declared.State.the-variants.{Reset}
-use Rattle.dlc.specs.Model.{wellFormed, view}
-use Rattle.dlc.specs.Events.{timerOf, timerStep}
-use Rattle.dlc.proofs.Refusals.{call-ok, call-room, timer-refused, timer-step}
+use Rattle.dlc_packet.specs.Packet.{resetPacket}
+use Rattle.dlc_queue.specs.Queue.{slots, replySize}
+use Rattle.dlc_table.specs.Answers.{noEntry}
+use Rattle.dlc_table.specs.declared.State.{State}
+use Rattle.dlc_table.specs.declared.State.the-variants.{Reset}
+use Rattle.dlc.specs.View.{wellFormed, view}
+use Rattle.dlc_table.specs.Events.{timerOf, timerStep}
+use Rattle.dlc_table.proofs.Refusals.{call-ok, call-room, timer-refused, timer-step}
 use Rattle.dlc.proofs.Outcomes.{refused-meets, one-meets, meets-by}
 use native.Mathlib.Omega.{arith}
 use borrow.Author.Needs.{needs}
@@ -20,14 +20,14 @@ use Rattle.dlc.proofs.Link.timer.Tie as tie
 
 -- past the shared refusals the link is well formed, the buffer has room, and the row of the link's state decides
 ok : (c : tie.Else1) → wellFormed (c .before .before .before .args .self) ≡ true
-ok c = call-ok (view (c .before .before .before .args .self)) (length (now (c .before .before .before .args .reply))) (c .before .refusal .result) (c .before .refusal .ensures) (c .if1 .left)
+ok c = call-ok slots (view (c .before .before .before .args .self)) (length (now (c .before .before .before .args .reply))) (c .before .refusal .result) (c .before .refusal .ensures) (c .if1 .left)
 
 room : (c : tie.Else1) → replySize ≤ length (now (c .before .before .before .args .reply))
-room c = call-room (view (c .before .before .before .args .self)) (length (now (c .before .before .before .args .reply))) (c .before .refusal .result) (c .before .refusal .ensures) (c .if1 .left)
+room c = call-room slots (view (c .before .before .before .args .self)) (length (now (c .before .before .before .args .reply))) (c .before .refusal .result) (c .before .refusal .ensures) (c .if1 .left)
 
 row : (c : tie.Else1) {s : State} → c .before .before .before .args .self .state ≡ s
-    → timerOf (view (c .before .before .before .args .self)) (length (now (c .before .before .before .args .reply))) ≡ timerStep (view (c .before .before .before .args .self)) s
-row c {s} e = timer-step (view (c .before .before .before .args .self)) (length (now (c .before .before .before .args .reply))) (c .before .refusal .result) (c .before .refusal .ensures) (c .if1 .left) s e
+    → timerOf slots (view (c .before .before .before .args .self)) (length (now (c .before .before .before .args .reply))) ≡ timerStep (view (c .before .before .before .args .self)) s
+row c {s} e = timer-step slots (view (c .before .before .before .args .self)) (length (now (c .before .before .before .args .reply))) (c .before .refusal .result) (c .before .refusal .ensures) (c .if1 .left) s e
 
 refusal-requires : tie.Need-refusal-requires
 refusal-requires c κs = tt
@@ -36,7 +36,7 @@ silent-requires : tie.Need-silent-requires
 silent-requires c κs = tt
 
 returns : tie.Need-returns
-returns c = refused-meets _ _ (c .before .before .refusal .result) _ _ (timer-refused (view (c .before .before .before .before .args .self)) (length (now (c .before .before .before .before .args .reply))) (c .before .before .refusal .result) (c .before .before .refusal .ensures) (c .before .if1 .taken)) (c .silent .ensures)
+returns c = refused-meets _ _ (c .before .before .refusal .result) _ _ (timer-refused slots (view (c .before .before .before .before .args .self)) (length (now (c .before .before .before .before .args .reply))) (c .before .before .refusal .result) (c .before .before .refusal .ensures) (c .before .if1 .taken)) (c .silent .ensures)
 
 enum-told : tie.Need-enum-told
 enum-told c = search needs
@@ -47,8 +47,8 @@ silent-requires-2 c κs = tt
 enum-told-2 : tie.Need-enum-told-2
 enum-told-2 c = search needs
 
-send-one-requires : tie.Need-send-one-requires
-send-one-requires c κs = omega (arith, room (c .before .before .before))
+send-control-requires : tie.Need-send-control-requires
+send-control-requires c κs = omega (arith, room (c .before .before .before))
 
 enum-told-3 : tie.Need-enum-told-3
 enum-told-3 c = search needs
@@ -71,7 +71,7 @@ same-length c = search needs
 returns-3 : tie.Need-returns-3
 returns-3 c =
     let l = c .before .before .before .before .before .before .before .before .before .args .self in
-    meets-by (row (c .before .before .before .before .before .before) (c .before .before .before .before .enum-told2 .given .1)) (one-meets (timerStep (view l) Reset) l l resetOctet _ _ _ refl refl refl (c .before .before .send-one .ensures))
+    meets-by (row (c .before .before .before .before .before .before) (c .before .before .before .before .enum-told2 .given .1)) (one-meets (timerStep (view l) Reset) l l resetPacket _ _ _ refl refl refl (c .before .before .send-control .ensures))
 
 returns-4 : tie.Need-returns-4
 returns-4 c = refused-meets _ _ noEntry _ _ (row (c .before .before .before) (c .before .enum-told3 .given .1)) (c .silent3 .ensures)
@@ -92,7 +92,7 @@ timer-spec =
     enum-told
     silent-requires-2
     enum-told-2
-    send-one-requires
+    send-control-requires
     enum-told-3
     silent-requires-3
     enum-told-4

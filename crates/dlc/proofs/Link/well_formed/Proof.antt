@@ -1,6 +1,6 @@
 -- `Link::well_formed`: queue, numbers and state, in this order. Assumes nothing.
-use mathlib.Core.Path.{_≡_, sym, _∙_}
-use Rattle.dlc.specs.Model.{stateFits}
+use mathlib.Core.Path.{sym, _∙_}
+use Rattle.dlc.specs.View.{stateFits}
 use Rattle.dlc.proofs.Parts.{bad-queue, bad-base, bad-expected, by-state}
 use Rattle.dlc.proofs.Link.well_formed.Statement.{statement}
 use Rattle.dlc.proofs.Link.well_formed.Tie as tie
@@ -14,14 +14,24 @@ returns c = sym (bad-base (c .before .before .before .before .args .self) (sym (
 returns-2 : tie.Need-returns-2
 returns-2 c = sym (bad-expected (c .before .before .before .before .before .args .self) (sym (c .before .before .before .well-formed .ensures) ∙ c .before .before .if1 .taken) (c .before .if2 .left) (c .if3 .taken))
 
+len-requires : tie.Need-len-requires
+len-requires c κs = tt
+
+at-rest-requires : tie.Need-at-rest-requires
+at-rest-requires c κs = tt
+
 state-fits-requires : tie.Need-state-fits-requires
 state-fits-requires c κs = tt
 
 returns-3 : tie.Need-returns-3
 returns-3 c =
-    let l = c .before .before .before .before .before .before .args .self in
-    let fits : c .state-fits .result ≡ stateFits (l .state) (l .queue .count) (l .base) (l .expected) = c .state-fits .ensures in
-    fits ∙ sym (by-state l (sym (c .before .before .before .before .well-formed .ensures) ∙ c .before .before .before .if1 .taken) (c .before .before .if2 .left) (c .before .if3 .left))
+    let tests = c .before .before .before in
+    let l = tests .before .before .before .before .before .args .self in
+    let counted = c .before .before .len .ensures in
+    let rests = c .before .at-rest .ensures in
+    c .state-fits .ensures
+    ∙ (λ i. stateFits (l .state) (counted i) (rests i) (l .base) (l .expected))
+    ∙ sym (by-state l (sym (tests .before .before .before .well-formed .ensures) ∙ tests .before .before .if1 .taken) (tests .before .if2 .left) (tests .if3 .left))
 
 returns-4 : tie.Need-returns-4
 returns-4 c = sym (bad-queue (c .before .before .before .args .self) (sym (c .before .well-formed .ensures) ∙ c .if1 .left))
@@ -29,4 +39,4 @@ returns-4 c = sym (bad-queue (c .before .before .before .args .self) (sym (c .be
 pub well-formed-spec : {M : Type 1} → statement M
 well-formed-spec =
     tie.close
-    (tie.spec well-formed-requires returns returns-2 state-fits-requires returns-3 returns-4)
+    (tie.spec well-formed-requires returns returns-2 len-requires at-rest-requires state-fits-requires returns-3 returns-4)

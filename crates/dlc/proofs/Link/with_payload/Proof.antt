@@ -1,7 +1,7 @@
 -- `Link::with_payload`: what `push` gives makes the link that the table says. Assumes nothing.
 use mathlib.Core.Path.{ap, _∙_}
 use denote.Ref.{now}
-use Rattle.dlc.specs.Model.{view}
+use Rattle.dlc.specs.View.{view}
 use Rattle.dlc.proofs.Views.{view-withPayload}
 use Rattle.dlc.proofs.Link.with_payload.Statement.{statement}
 use Rattle.dlc.proofs.Link.with_payload.Tie as tie

@@ -4,13 +4,13 @@ use Rattle.dlc.proofs.form.at_rest.Statement.{statement}
 use Rattle.dlc.proofs.form.at_rest.Tie as tie
 
 returns : tie.Need-returns
-returns c = simp (eq-eqb _ _ (c .before .if1 .taken), eq-eqb _ _ (c .if2 .taken))
+returns c = simp (c .before .if1 .taken, eq-eqb _ _ (c .if2 .taken))
 
 returns-2 : tie.Need-returns-2
-returns-2 c = simp (eq-eqb _ _ (c .before .if1 .taken), ne-eqb _ _ (c .if2 .left))
+returns-2 c = simp (c .before .if1 .taken, ne-eqb _ _ (c .if2 .left))
 
 returns-3 : tie.Need-returns-3
-returns-3 c = simp (ne-eqb _ _ (c .if1 .left))
+returns-3 c = simp (c .if1 .left)
 
 pub at-rest-spec : {M : Type 1} → statement M
 at-rest-spec = tie.close (tie.spec returns returns-2 returns-3)

@@ -3,8 +3,9 @@ use Prim.Native.Nat.{_<_, _≤_}
 use native.Mathlib.Omega.{arith}
 use lib.ListN.{length}
 use denote.Ref.{now}
-use Rattle.dlc.specs.Model.{Model}
-use Rattle.dlc.specs.Events.{arrivalOf}
+use Rattle.dlc_table.specs.Model.{Model}
+use Rattle.dlc_table.specs.Events.{arrivalOf}
+use Rattle.dlc_queue.specs.Queue.{slots}
 use Rattle.dlc_plain.specs.Plain.{stateWait}
 use Rattle.dlc_plain.proofs.Conversions.{passed, arrival-bad, refused}
 use Rattle.dlc_plain.proofs.PlainLink.arrival.Statement.{statement}
@@ -42,7 +43,7 @@ returns-2 c =
     let before = now (args .reply) in
     let octets = now (args .packet) in
     let h : l .state ≤ stateWait = omega (arith, c .before .before .before .before .before .before .if1 .left) in
-    passed l h (λ (m : Model). arrivalOf m octets (length before)) before _ _ _ _ (c .before .before .before .before .before .link .ensures) (c .before .before .before .arrival .ensures) (c .plain-outcome .ensures)
+    passed l h (λ (m : Model). arrivalOf slots m octets (length before)) before _ _ _ _ (c .before .before .before .before .before .link .ensures) (c .before .before .before .arrival .ensures) (c .plain-outcome .ensures)
 
 pub arrival-spec : {M : Type 1} → statement M
 arrival-spec = tie.close (tie.spec bad-link-requires returns link-requires arrival-requires plain-outcome-requires same-length returns-2)

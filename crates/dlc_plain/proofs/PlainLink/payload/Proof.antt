@@ -3,8 +3,9 @@ use Prim.Native.Nat.{_<_, _≤_}
 use native.Mathlib.Omega.{arith}
 use lib.ListN.{length}
 use denote.Ref.{now}
-use Rattle.dlc.specs.Model.{Model}
-use Rattle.dlc.specs.Events.{payloadOf}
+use Rattle.dlc_table.specs.Model.{Model}
+use Rattle.dlc_table.specs.Events.{payloadOf}
+use Rattle.dlc_queue.specs.Queue.{slots}
 use Rattle.dlc_plain.specs.Plain.{stateWait}
 use Rattle.dlc_plain.proofs.Conversions.{passed, payload-bad, refused}
 use Rattle.dlc_plain.proofs.PlainLink.payload.Statement.{statement}
@@ -42,7 +43,7 @@ returns-2 c =
     let before = now (args .reply) in
     let octets = now (args .p) in
     let h : l .state ≤ stateWait = omega (arith, c .before .before .before .before .before .before .if1 .left) in
-    passed l h (λ (m : Model). payloadOf m octets (length before)) before _ _ _ _ (c .before .before .before .before .before .link .ensures) (c .before .before .before .payload .ensures) (c .plain-outcome .ensures)
+    passed l h (λ (m : Model). payloadOf slots m octets (length before)) before _ _ _ _ (c .before .before .before .before .before .link .ensures) (c .before .before .before .payload .ensures) (c .plain-outcome .ensures)
 
 pub payload-spec : {M : Type 1} → statement M
 payload-spec = tie.close (tie.spec bad-link-requires returns link-requires payload-requires plain-outcome-requires same-length returns-2)

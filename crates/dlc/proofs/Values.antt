@@ -1,0 +1,36 @@
+-- A link for every model that one can hold, its free slots all 0: for whoever has to show that there are links. Assumes nothing.
+use Prim.Native.Nat.{_≤_, _<_}
+use mathlib.Core.Path.{_≡_, sym, ap, _∙_}
+use mathlib.Core.Bool.{Bool, true, _&&_}
+use lib.ListN.{length}
+use borrow.Author.Tests.{lt-ltb}
+use Rattle.dlc_packet.specs.Numbers.{modulus}
+use Rattle.dlc_table.specs.Model.{Model, rebuilt}
+use Rattle.dlc_queue.specs.Queue.{slots, held, atRest}
+use Rattle.dlc_queue.proofs.Values.{queueOf, Short, payloads-queueOf, formed-queueOf}
+use Rattle.dlc.specs.declared.Link.{Link}
+use Rattle.dlc.specs.View.{stateFits, wellFormed, seen, view}
+
+abbrev pub linkOf : Model → Link
+linkOf m = record { state = m .state; queue = queueOf (m .queue); base = m .base; expected = m .expected }
+
+-- a model that a link can hold: it is well formed, and no limit of its parts is passed
+pub record Fits (m : Model) : Type 0 where
+  pub ok : m .ok ≡ true
+  pub few : length (m .queue) ≤ slots
+  pub short : Short (m .queue)
+  pub base : m .base < modulus
+  pub expected : m .expected < modulus
+  pub state : stateFits (m .state) (held (queueOf (m .queue))) (atRest (queueOf (m .queue))) (m .base) (m .expected) ≡ true
+
+module _ (m : Model) (f : Fits m) where
+  formed-linkOf : wellFormed (linkOf m) ≡ true
+  unfolding wellFormed
+  formed-linkOf =
+      λ i. formed-queueOf (m .queue) (f .short) (f .few) i
+      && (lt-ltb (m .base) modulus (f .base) i && (lt-ltb (m .expected) modulus (f .expected) i && f .state i))
+
+  pub view-linkOf : view (linkOf m) ≡ m
+  view-linkOf =
+      ap (λ (ok : Bool). seen ok (linkOf m)) (formed-linkOf ∙ sym (f .ok))
+      ∙ (λ i. rebuilt m (m .state) (payloads-queueOf (m .queue) i) (m .base) (m .expected))

@@ -1,0 +1,4 @@
+pub mod Cases
+pub mod Copied
+pub mod Runs
+pub mod Links

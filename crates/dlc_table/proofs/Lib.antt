@@ -1,0 +1,4 @@
+pub mod Rows
+pub mod Refusals
+pub mod StaysFormed
+pub mod Cases

@@ -1,0 +1,4 @@
+pub mod Answers
+pub mod Model
+pub mod Events
+pub mod Runs
