@@ -1,5 +1,5 @@
 -- What the link's own functions make of a view. Assumes nothing.
-use Prim.Native.Nat.{ℕ, zero, suc, _+_, _-_, _<_, _≤_}
+use Prim.Native.Nat.{ℕ, zero, suc, _-_, _<_, _≤_}
 use native.Mathlib.Omega.{arith}
 use mathlib.Core.Path.{_≡_, refl, sym, _∙_}
 use mathlib.Core.Bool.{true, cond}
@@ -7,18 +7,18 @@ use mathlib.Core.List.{List, [], _∷_}
 use lib.ListN.{length, drop, length-drop}
 use lib.Dec.{ltb, eqb}
 use borrow.Author.Tests.{lt-ltb, ne-eqb}
-use Rattle.dlc_packet.specs.Numbers.{advance}
+use Rattle.dlc_packet.specs.Numbers.{modulus, advance}
 use Rattle.dlc_packet.specs.Packet.{maxPayload}
 use Rattle.dlc_table.specs.declared.State.{State}
 use Rattle.dlc_table.specs.declared.State.the-variants.{Idle, Data, Wait}
 use Rattle.dlc_table.specs.Model.{rebuilt, inState, fresh}
 use Rattle.dlc_table.specs.Events.{isOpen, expectNext, without, stateOf, withPayload}
 use Rattle.dlc_queue.specs.declared.Queue.{Queue}
-use Rattle.dlc_queue.specs.Queue.{slots, payloads, held, atRest, fresh as freshQueue, emptied, Pushed, Removed}
+use Rattle.dlc_queue.specs.Queue.{slots, payloads, held, formed, atRest, fresh as freshQueue, emptied, Pushed, Removed}
 use Rattle.dlc_queue.proofs.Slots.{empty-formed, emptied-formed, push-held, push-payloads, push-formed, remove-held, remove-payloads, remove-formed}
 use Rattle.dlc.specs.declared.Link.{Link}
 use Rattle.dlc.specs.View.{wellFormed, stateFits, seen, view, relinked}
-use Rattle.dlc.proofs.Parts.{Parts, parts, whole, fits, open-fits}
+use Rattle.dlc.proofs.Parts.{parts, whole, fits, open-fits}
 
 -- a fresh link
 abbrev pub freshWith : Queue → Link
@@ -31,22 +31,23 @@ view-fresh =
     λ i. seen (w i) r
 
 module _ (l : Link) (w : wellFormed l ≡ true) where
-  -- a well-formed link made of this one is seen as the model made of its model
-  rebuilt-view : (s : State) (q : Queue) (b e : ℕ) → Parts (relinked l s q b e) → view (relinked l s q b e) ≡ rebuilt (view l) s (payloads q) b e
-  rebuilt-view s q b e g =
-      let v : wellFormed (relinked l s q b e) ≡ wellFormed l = whole (relinked l s q b e) g ∙ sym w in
-      λ i. seen (v i) (relinked l s q b e)
+  -- a link made of this one, of parts that go together, is seen as the model made of its model
+  rebuilt-view : (s : State) (q : Queue) (b e : ℕ) → formed q ≡ true → b < modulus → e < modulus → stateFits s (held q) (atRest q) b e ≡ true
+      → view (relinked l s q b e) ≡ rebuilt (view l) s (payloads q) b e
+  rebuilt-view s q b e fq fb fe fs =
+      let r : Link = relinked l s q b e in
+      let v : wellFormed r ≡ wellFormed l = whole r (record { queue = fq; base = fb; expected = fe; state = fs }) ∙ sym w in
+      λ i. seen (v i) r
 
   -- RESET leaves an empty queue
   pub view-cleared : view (relinked l Data (emptied (l .queue)) 0 0) ≡ rebuilt (view l) Data [] 0 0
-  view-cleared = rebuilt-view Data (emptied (l .queue)) 0 0
-      (record { queue = emptied-formed (l .queue); base = omega arith; expected = omega arith; state = refl })
+  view-cleared = rebuilt-view Data (emptied (l .queue)) 0 0 (emptied-formed (l .queue)) (omega arith) (omega arith) refl
 
   -- start and RESET_ACK: only the state changes
   pub view-inState : (s : State) → fits l s ≡ true → view (relinked l s (l .queue) (l .base) (l .expected)) ≡ inState s (view l)
   view-inState s f =
       let g = parts l w in
-      rebuilt-view s (l .queue) (l .base) (l .expected) (record { queue = g .queue; base = g .base; expected = g .expected; state = f })
+      rebuilt-view s (l .queue) (l .base) (l .expected) (g .queue) (g .base) (g .expected) f
 
   -- DATA: only the expected number changes
   pub view-expectNext : (e : ℕ) → isOpen (l .state) ≡ true → e ≡ advance (l .expected) 1
@@ -54,7 +55,7 @@ module _ (l : Link) (w : wellFormed l ≡ true) where
   view-expectNext e o p =
       let g = parts l w in
       let f = open-fits (l .state) (held (l .queue)) (atRest (l .queue)) (l .base) (l .expected) e o (g .state) in
-      rebuilt-view (l .state) (l .queue) (l .base) e (record { queue = g .queue; base = g .base; expected = omega (arith, p); state = f })
+      rebuilt-view (l .state) (l .queue) (l .base) e (g .queue) (g .base) (omega (arith, p)) f
       ∙ (λ i. rebuilt (view l) (l .state) (payloads (l .queue)) (l .base) (p i))
 
   -- a payload more
@@ -65,8 +66,7 @@ module _ (l : Link) (w : wellFormed l ≡ true) where
       let n = push-held (l .queue) q (g .queue) p h k m in
       let ps = push-payloads (l .queue) q (g .queue) p h k m in
       let f : ltb 0 (held q) ≡ true = lt-ltb 0 (held q) (omega (arith, n)) in
-      rebuilt-view Wait q (l .base) (l .expected)
-      (record { queue = push-formed (l .queue) q (g .queue) p h k m; base = g .base; expected = g .expected; state = f })
+      rebuilt-view Wait q (l .base) (l .expected) (push-formed (l .queue) q (g .queue) p h k m) (g .base) (g .expected) f
       ∙ (λ i. rebuilt (view l) Wait (ps i) (l .base) (l .expected))
 
 -- the state of an open link by its queue, and by how many payloads it counts
@@ -91,6 +91,5 @@ view-without l w q n b s long h m e t =
     let len : length (drop n (view l .queue)) ≡ held q = length-drop n (view l .queue) ∙ omega (arith, long, c) in
     let st : s ≡ stateOf (drop n (view l .queue)) = t ∙ sym (state-of (drop n (view l .queue)) (held q) len) in
     let f : stateFits s (held q) (atRest q) b (l .expected) ≡ true = rw t (open-state-fits (held q) q b (l .expected)) in
-    rebuilt-view l w s q b (l .expected)
-    (record { queue = remove-formed (l .queue) q (g .queue) n h m; base = omega (arith, e); expected = g .expected; state = f })
+    rebuilt-view l w s q b (l .expected) (remove-formed (l .queue) q (g .queue) n h m) (omega (arith, e)) (g .expected) f
     ∙ (λ i. rebuilt (view l) (st i) (ps i) (e i) (l .expected))

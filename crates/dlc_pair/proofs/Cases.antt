@@ -1,5 +1,5 @@
 -- The definitions of specs/ on small cases, by computation: what a reader may check them against. Assumes nothing.
-use Prim.Native.Nat.{ℕ}
+use Prim.Native.Nat.{ℕ, _-_}
 use mathlib.Core.Path.{_≡_, refl}
 use mathlib.Core.Bool.{true, false}
 use mathlib.Core.List.{List, [], _∷_}
@@ -10,7 +10,7 @@ use lib.ListN.{replicate}
 use Rattle.dlc_table.specs.Model.{Model}
 use Rattle.dlc_table.specs.Answers.{done, otherNumber, replyTooSmall}
 use Rattle.dlc_answer.specs.declared.Answer.{Answer}
-use Rattle.dlc.specs.Limits.{dataPacket, dackPacket}
+use Rattle.dlc.specs.Limits.{replySize, dataPacket, dackPacket}
 use Rattle.dlc_run.specs.Replies.{Octets}
 use Rattle.window.specs.Sides.{left, right}
 use Rattle.dlc_pair.specs.World.{World, freshEnd, initial}
@@ -54,6 +54,10 @@ premise-before v b w h = refl
 pub premise-other : {L : Type 0} (v : L → Model) (b : Octets) (w : World L) (h : History v (timerAt b) w) → TimerWaits v right (timerAt b) w h ≡ (Unit {0} × Unit {0})
 premise-other v b w h = refl
 
+-- a DACK that is on its way back is waited for
+pub dack-awaited : {L : Type 0} (l l′ : L) → Drained (record { left = freshEnd l; right = relined (dackPacket 3 ∷ []) 0 (freshEnd l′) }) → ⊥
+dack-awaited l l′ h = omega (arith, h .1)
+
 -- ---- an exchange of one payload: the timer here, DATA there, the DACK back; recovery with nothing to arrive is the two timers
 pub one-exchange : (b : Octets) → exchange left b (b ∷ []) (b ∷ [])
     ≡ record { side = left; act = timer b } ∷ record { side = right; act = arrival b } ∷ record { side = left; act = arrival b } ∷ []
@@ -62,9 +66,9 @@ one-exchange b = refl
 pub two-timers : (b : Octets) → recovery b 0 ≡ record { side = left; act = timer b } ∷ record { side = right; act = timer b } ∷ []
 two-timers b = refl
 
--- a reply buffer of 1,799 octets is enough, one of 1,798 is not
-pub enough : Enough (replicate 1799 0)
+-- a reply buffer that a full queue of the longest payloads fits into is enough, one that is an octet shorter is not
+pub enough : Enough (replicate replySize 0)
 enough = lit≤ tt
 
-pub not-enough : Enough (replicate 1798 0) → ⊥
+pub not-enough : Enough (replicate (replySize - 1) 0) → ⊥
 not-enough h = omega (arith, h)

@@ -1,17 +1,16 @@
--- Packets of the sliding window as octets, and packets taken out of a buffer. Assumes nothing.
+-- Packets of the sliding window as octets. Assumes nothing.
 use Prim.Native.Nat.{ℕ, zero, suc, _+_, _/_, _%_, _≤_, _<_}
 use native.Mathlib.Omega.{arith}
 use mathlib.Core.Path.{_≡_, refl, ap, _∙_}
 use mathlib.Core.Bool.{Bool, true, false}
-use mathlib.Core.List.{List, [], _∷_, _++_, map, append-assoc, flatten}
-use lib.ListN.{length, take, drop}
-use lib.Seq.{take-append-seam, drop-append-seam}
+use mathlib.Core.List.{List, [], _∷_, _++_, map}
+use lib.ListN.{length, drop}
 use lib.Dec.{ltb, eqb}
 use borrow.Author.Tests.{le-ltb, eq-eqb, ne-eqb}
 use Rattle.dlc_packet.specs.declared.Kind.the-variants.{Data, Dack}
 use Rattle.dlc_packet.specs.Packet.{resetOctet, resetAckOctet, dataOctet, dackOctet}
 use Rattle.dlc.specs.Limits.{modulus, maxPayload, dataPacket, dackPacket, dataPackets, kindOf}
-use Rattle.dlc_run.specs.Replies.{Octets, Packets, isData, isDack, packetsIn}
+use Rattle.dlc_run.specs.Replies.{Octets, Packets, isData, isDack}
 use Rattle.window.specs.Packets.{Packet, dataPdu, dackPdu, countData, countDack, numbered}
 use Rattle.window.proofs.InFlight.{All}
 use Rattle.dlc_pair.specs.World.{one, count}
@@ -83,16 +82,6 @@ pub count-dack : (ks : List Packet) → All Sound ks → count isDack (map encod
 count-dack [] s = refl
 count-dack (dataPdu x p ∷ ks) s = (λ i. one (data-not-dack x (s .0 .0) i) + count-dack ks (s .1) i) ∙ omega arith
 count-dack (dackPdu x ∷ ks) s = (λ i. one (dack-is-dack x (s .0) i) + count-dack ks (s .1) i) ∙ omega arith
-
--- ---- what is copied out of a buffer is what was put at its front
-pub packetsIn-flatten : (ps : Packets) (lengths rest : List ℕ) → packetsIn (length ps) (map length ps ++ lengths) (flatten ps ++ rest) ≡ ps
-unfolding flatten
-packetsIn-flatten [] lengths rest = refl
-packetsIn-flatten (p ∷ ps) lengths rest =
-    let a : (p ++ flatten ps) ++ rest ≡ p ++ (flatten ps ++ rest) = append-assoc p (flatten ps) rest in
-    let t : take (length p) ((p ++ flatten ps) ++ rest) ≡ p = ap (take (length p)) a ∙ take-append-seam p (flatten ps ++ rest) in
-    let d : drop (length p) ((p ++ flatten ps) ++ rest) ≡ flatten ps ++ rest = ap (drop (length p)) a ∙ drop-append-seam p (flatten ps ++ rest) in
-    λ i. t i ∷ (ap (packetsIn (length ps) (map length ps ++ lengths)) d ∙ packetsIn-flatten ps lengths rest) i
 
 -- ---- "send all"
 pub dataPackets-numbered : (x : ℕ) (q : Packets) → dataPackets x q ≡ map encode (numbered x q)

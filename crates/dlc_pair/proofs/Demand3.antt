@@ -1,48 +1,63 @@
 -- Demand 3. The theorem stands last, for every type of links and its view; Links states it of `Link` and of what C programs hold. Assumes nothing.
 --
--- Beside it: Existence (every list of events has a history), Worked (a run with losses, repeats, refusals and a restart of the numbers; a run
--- that meets the bound with equality), Opening (how both ends come to stand open), Progress (what waits is delivered, where nothing is lost).
+-- Beside it: Theorems (every list of events has a history; what waits is delivered, where nothing is lost), Worked (a run with losses, repeats,
+-- refusals and a restart of the numbers; a run that meets the bound with equality), Opening (how both ends come to stand open).
 -- By itself the claim also holds of some wrong links: one that always answers 24 and sends nothing, one that answers 0 to a DACK of
 -- distance 0, one that removes all at a distance above the queue. They are ruled out by the contracts, which are equations with the step
 -- table, and the histories here are of calls that meet the contracts.
+use Prim.Native.Nat.{ℕ, _+_, _*_, _≤_}
 use native.Mathlib.Omega.{arith}
-use mathlib.Core.Path.{_≡_, sym, ap, _∙_}
+use mathlib.Core.Path.{_≡_, sym, ap, subst, _∙_}
 use mathlib.Core.List.{List, _++_, map}
 use lib.ListN.{length}
 use Rattle.dlc_table.specs.Model.{Model, opened}
 use Rattle.dlc_run.specs.Replies.{Packets}
-use Rattle.window.specs.Sides.{left, right}
-use Rattle.window.specs.Ends.{End as Peer}
+use Rattle.window.specs.Sides.{left, right, Both}
+use Rattle.window.specs.Ends.{Rules, Lawful, End as Peer}
 use Rattle.window.specs.Events.{start as packetStart}
 use Rattle.window.specs.Claim.{OneWay as PacketOneWay}
 use Rattle.window.proofs.SlidingWindow.{sliding-window}
 use Rattle.dlc_pair.specs.World.{End, World, initial}
 use Rattle.dlc_pair.specs.History.{Event, History}
 use Rattle.dlc_pair.specs.Demand3.{OneWay, Demand3}
-use Rattle.dlc_pair.specs.Rules.{rules}
-use Rattle.dlc_pair.proofs.Relation.{Follows, BothFollow}
-use Rattle.dlc_pair.proofs.Effects.{lawful}
-use Rattle.dlc_pair.proofs.Runs.{eventOf, run-follows, timerWaits-follow, follow-initial}
+use Rattle.dlc_pair.proofs.Relation.{Follows, BothFollow as BothFollowBy, follow-initial}
+use Rattle.dlc_pair.proofs.Simulates.{Simulates}
+use Rattle.dlc_pair.proofs.Runs.{eventOf, run-follows, timerWaits-follow}
+use Rattle.dlc_pair.proofs.Effects.{modelOf, lawful, simulates}
 
--- what the packet system's ends give, read off at the ends that follow them
-one-way : {L : Type 0} {v : L → Model} {e e′ : End L} {a a′ : Peer} {P Q : Type 0} → Follows v e a → Follows v e′ a′ → (Q → P) → PacketOneWay rules a a′ P → OneWay e e′ Q
-one-way f f′ g c = record {
-  prefix = (c .prefix .0, ap (λ (l : Packets). l ++ c .prefix .0) (f′ .delivered) ∙ c .prefix .1 ∙ sym (f .accepted));
-  bound = λ q. omega (arith, c .bound (g q), f .sent, f .lost, ap length (f .accepted));
-  formed = f .never;
-}
+-- ---- of whatever rules and models the step table simulates
+module _ {rules : Rules} {modelOf : Peer → Model} (table : Simulates rules modelOf) (lawful : Lawful rules) where
+  -- what the packet system's ends give, read off at the ends that follow them
+  one-way : {L : Type 0} {v : L → Model} {e e′ : End L} {a a′ : Peer} {P Q : Type 0} → Follows modelOf v e a → Follows modelOf v e′ a′ → (Q → P)
+      → PacketOneWay rules a a′ P
+      → OneWay e e′ Q
+  one-way {a = a} f f′ g c = record {
+    prefix = (c .prefix .0, ap (λ (l : Packets). l ++ c .prefix .0) (f′ .delivered) ∙ c .prefix .1 ∙ sym (f .accepted));
+    bound = λ q.
+        let b = subst (λ (n : ℕ). a .sender .sent ≤ length (a .sender .accepted) + n * a .sender .lost) (table .window) (c .bound (g q)) in
+        omega (arith, b, f .sent, f .lost, ap length (f .accepted));
+    formed = f .never;
+  }
+
+  pub demand-three-by : {L : Type 0} {v : L → Model} {w : World L} → BothFollowBy modelOf v w packetStart → (es : List Event) (h : History v es w)
+      → Demand3 v es w h
+  demand-three-by f es h =
+      let last = run-follows table es f h in
+      let c = sliding-window rules lawful (map eventOf es) in
+      record {
+        leftToRight = one-way (last .left) (last .right) (timerWaits-follow table left es f h) (c .leftToRight);
+        rightToLeft = one-way (last .right) (last .left) (timerWaits-follow table right es f h) (c .rightToLeft);
+      }
+
+-- ---- of this link
+abbrev pub BothFollow : {L : Type 0} → (L → Model) → World L → Both Peer → Type 0
+BothFollow v w s = BothFollowBy modelOf v w s
 
 -- from every world that follows the packet system's start
 pub demand-three-from : {L : Type 0} {v : L → Model} {w : World L} → BothFollow v w packetStart → (es : List Event) (h : History v es w) → Demand3 v es w h
-demand-three-from f es h =
-    let last = run-follows es f h in
-    let c = sliding-window rules lawful (map eventOf es) in
-    record {
-      leftToRight = one-way (last .left) (last .right) (timerWaits-follow left es f h) (c .leftToRight);
-      rightToLeft = one-way (last .right) (last .left) (timerWaits-follow right es f h) (c .rightToLeft);
-    }
+demand-three-from f es h = demand-three-by simulates lawful f es h
 
 -- demand 3: for every type of links and its view, and every list of events, whatever its calls give back under their contracts
 pub demand-three : {L : Type 0} (v : L → Model) (l l′ : L) → v l ≡ opened → v l′ ≡ opened → (es : List Event) (h : History v es (initial l l′))
     → Demand3 v es (initial l l′) h
-demand-three v l l′ e e′ es h = demand-three-from (follow-initial l l′ e e′) es h
+demand-three v l l′ e e′ es h = demand-three-from (follow-initial modelOf l l′ e e′) es h

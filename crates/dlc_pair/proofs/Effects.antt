@@ -1,123 +1,122 @@
--- What the step table says of each event at an open link, test by test; and that ends of the packet system stay such as a link can hold.
--- Assumes nothing.
+-- What the step table says at an open link, test by test, and on the way to one: the one file that opens it. Assumes nothing.
 --
--- Each effect is a nest of choices over Bools, so that a proof goes by cases on the Bools and never opens a contract.
-use Prim.Native.Nat.{ℕ, zero, suc, _+_, _≤_, _<_}
+-- Each effect is a nest of choices over Bools, so that a proof goes by cases on the Bools; `simulates` puts them together.
+use Prim.Native.Nat.{ℕ, zero, suc, _≤_, _<_}
 use native.Mathlib.Omega.{arith}
 use native.Mathlib.Nat.{add-zero}
-use mathlib.Core.Path.{_≡_, refl, sym, ap, _∙_}
-use mathlib.Core.Bool.{Bool, true, false, cond, not, _&&_}
-use mathlib.Core.Logic.{_≢_}
+use mathlib.Core.Path.{_≡_, refl, sym, ap, subst, _∙_}
+use mathlib.Core.Bool.{Bool, true, false, cond, not, _&&_, false≢true}
 use mathlib.Core.List.{[], _∷_, _++_, append-nil}
-use lib.ListN.{length, length-append, length-drop}
+use lib.ListN.{length}
 use lib.Dec.{leb, ltb, eqb, leb·suc-zero}
-use borrow.Author.Tests.{lt-ltb, le-ltb, leb-true, leb-false}
+use borrow.Author.Tests.{lt-ltb, le-ltb, leb-true, leb-false, ltb-false}
 use Rattle.dlc_packet.proofs.Numbers.{distance-dackNumber}
-use Rattle.dlc_table.specs.Answers.{done, payloadTooLong, notOpen, queueFull, noEntry, otherNumber, replyTooSmall, badLink}
-use Rattle.dlc_table.specs.Model.{Model, rebuilt, opened}
-use Rattle.dlc_table.specs.Events.{Effect, effect, refuse, expectNext, dackOf, judged, dataStep, stateOf, without, dackStep, timerStep, startStep, withPayload, queued, isOpen, packetStep, startOf, timerOf, payloadOf, arrivalOf}
-use Rattle.dlc.specs.Limits.{modulus, advance, slots, maxPayload, replySize, dackNumber, distance, dackPacket, dataPackets}
+use Rattle.dlc_table.specs.declared.State.the-variants.{Reset}
+use Rattle.dlc_table.specs.Answers.{done, payloadTooLong, notOpen, queueFull, noEntry, otherNumber, replyTooSmall}
+use Rattle.dlc_table.specs.Model.{Model, rebuilt, inState, fresh, opened}
+use Rattle.dlc_table.specs.Events.{Effect, effect, refuse, cleared, expectNext, dackOf, judged, dataStep, stateOf, without, dackStep, timerStep, startStep}
+use Rattle.dlc_table.specs.Events.{queued, isOpen, packetStep, startOf, timerOf, payloadOf, arrivalOf}
+use Rattle.dlc_queue.proofs.Values.{Short as ShortQueue}
+use Rattle.dlc.specs.declared.Link.{Link}
+use Rattle.dlc.specs.Limits.{modulus, advance, slots, maxPayload, replySize, distance, resetPacket, resetAckPacket, dataPackets}
+use Rattle.dlc.specs.View.{stateFits, view}
+use Rattle.dlc.proofs.Values.{linkOf, view-linkOf}
 use Rattle.dlc_run.specs.Replies.{Octets, Packets}
-use Rattle.window.specs.Packets.{dataPdu, dackPdu}
-use Rattle.window.specs.Ends.{Lawful, End as Peer, Sender, Receiver, freed, lostOne, acknowledges, withSender, firstSent, accept, sendAll, answering, takeData}
-use Rattle.window.proofs.InFlight.{All, all-++}
+use Rattle.window.specs.Packets.{Packet, dataPdu, dackPdu, numbered}
+use Rattle.window.specs.Ends.{Lawful, End as Peer, delivering, freed, lostOne, acknowledges, withSender, firstSent, accept, sendAll, takeData}
+use Rattle.window.proofs.InFlight.{All}
 use Rattle.dlc_pair.specs.Rules.{rules}
-use Rattle.dlc_pair.proofs.Codec.{encode, Sound, short-drop, kindOf-data, kindOf-dack}
-use Rattle.dlc_pair.proofs.Relation.{modelOf, Fits, Becomes}
+use Rattle.dlc_pair.proofs.Codec.{encode, Sound, Short, kindOf-data, kindOf-dack, dataPackets-numbered, sound-numbered}
+use Rattle.dlc_pair.proofs.Relation.{Fits}
+use Rattle.dlc_pair.proofs.OneCall.{becomes-same, becomes-sender, becomes-answer, fits-accept, fits-sendAll, fits-takeData, fits-lostOne, fits-freed}
+use Rattle.dlc_pair.proofs.Simulates.{tooShort, passes, offered, timedOut, reached, Bare, Offer, Arrival, Simulates}
 
--- the rules of the sliding window are kept: seven is below sixteen, and a DACK's distance is what it acknowledges
+-- the rules of the sliding window are kept: the slots are fewer than the numbers, and a DACK's distance is what it acknowledges
 pub lawful : Lawful rules
 lawful = record { below = omega arith; distance = distance-dackNumber }
 
-module _ (a : Peer) (f : Fits a) where
-  pub fits-accept : (p : Octets) → length (a .sender .queue) < slots → length p ≤ maxPayload → Fits (accept rules p a)
-  fits-accept p h k = record {
+-- the model of an open link that stands where an end of the packet system does
+abbrev pub modelOf : Peer → Model
+modelOf a = rebuilt opened (stateOf (a .sender .queue)) (a .sender .queue) (a .sender .base) (a .receiver .expected)
+
+-- ---- a link that holds it
+state-fits : (q : Packets) (b x : ℕ) → stateFits (stateOf q) (length q) (eqb (length q) 0) b x ≡ true
+state-fits [] b x = refl
+state-fits (p ∷ q) b x = lt-ltb 0 (suc (length q)) (omega arith)
+
+-- the same said of the queue's payloads
+short-queue : (q : Packets) → Short q → ShortQueue q
+short-queue [] s = tt
+short-queue (p ∷ q) s = (s .0, short-queue q (s .1))
+
+value : (a : Peer) → Fits a → (l : Link) × (view l ≡ modelOf a)
+value a f = (
+  linkOf (modelOf a),
+  view-linkOf (modelOf a) (record {
+    ok = refl;
+    few = f .few;
+    short = short-queue (a .sender .queue) (f .short);
     base = f .base;
     expected = f .expected;
-    short = all-++ _ (a .sender .queue) (p ∷ []) (f .short) (k, tt);
-    few = omega (arith, length-append (a .sender .queue) (p ∷ []));
-  }
-
-  pub fits-sendAll : Fits (sendAll rules a)
-  fits-sendAll = record { base = f .base; expected = f .expected; short = f .short; few = f .few }
-
-  pub fits-takeData : (hit : Bool) (p : Octets) → Fits (takeData rules hit p a)
-  fits-takeData true p = record { base = f .base; expected = omega arith; short = f .short; few = f .few }
-  fits-takeData false p = record { base = f .base; expected = f .expected; short = f .short; few = f .few }
-
-  pub fits-lostOne : Fits (withSender (lostOne (a .sender)) a)
-  fits-lostOne = record { base = f .base; expected = f .expected; short = f .short; few = f .few }
-
-  pub fits-freed : (n : ℕ) → Fits (withSender (freed n (a .sender)) a)
-  fits-freed n = record {
-    base = omega arith;
-    expected = f .expected;
-    short = short-drop n (a .sender .queue) (f .short);
-    few = omega (arith, length-drop n (a .sender .queue), f .few);
-  }
-
--- ---- an effect as a step of the packet system's end
--- that leaves the line alone, and changes the sending half
-pub becomes-sender : {d : Effect} {a : Peer} (x : Sender) {n : ℕ} → d .after ≡ modelOf (withSender x a) → d .packets ≡ [] → d .code ≢ badLink
-    → x .accepted ≡ a .sender .accepted
-    → x .sent ≡ a .sender .sent
-    → x .lost ≡ a .sender .lost + n
-    → Fits (withSender x a)
-    → Becomes d a (withSender x a) [] [] [] n
-becomes-sender {a = a} x model packets code accepted sent lost fits = record {
-  model = model;
-  packets = packets;
-  code = code;
-  line = sym (append-nil (a .line));
-  accepts = accepted ∙ sym (append-nil (a .sender .accepted));
-  delivers = sym (append-nil (a .receiver .delivered));
-  sent = sent ∙ sym (add-zero (a .sender .sent));
-  loses = lost;
-  fits = fits;
-  sound = tt;
-}
-
--- that answers by a DACK, the receiving half being y now
-pub becomes-answer : {d : Effect} {a : Peer} (y : Receiver) {up : Packets} → d .after ≡ modelOf (answering rules y a)
-    → d .packets ≡ dackPacket (dackNumber (y .expected)) ∷ []
-    → d .code ≢ badLink
-    → y .delivered ≡ a .receiver .delivered ++ up
-    → Fits (answering rules y a)
-    → Becomes d a (answering rules y a) (dackPdu (dackNumber (y .expected)) ∷ []) [] up 0
-becomes-answer {a = a} y model packets code delivers fits = record {
-  model = model;
-  packets = packets;
-  code = code;
-  line = refl;
-  accepts = sym (append-nil (a .sender .accepted));
-  delivers = delivers;
-  sent = sym (add-zero (a .sender .sent));
-  loses = sym (add-zero (a .sender .lost));
-  fits = fits;
-  sound = (omega (arith, fits .expected), tt);
-}
+    state = state-fits (a .sender .queue) (a .sender .base) (a .receiver .expected);
+  }),
+)
 
 -- ---- start: 26 or 24
-abbrev pub startEffect : Bool → Model → Effect
+abbrev startEffect : Bool → Model → Effect
 startEffect short m = cond short (refuse m replyTooSmall) (refuse m noEntry)
 
 start-open : (m : Model) (q : Packets) → startStep m (stateOf q) ≡ refuse m noEntry
 start-open m [] = refl
 start-open m (p ∷ q) = refl
 
-pub startOf-open : (a : Peer) (n : ℕ) → startOf slots (modelOf a) n ≡ startEffect (ltb n replySize) (modelOf a)
+startOf-open : (a : Peer) (n : ℕ) → startOf slots (modelOf a) n ≡ startEffect (ltb n replySize) (modelOf a)
 unfolding startOf
 startOf-open a n = ap (cond (ltb n replySize) (refuse (modelOf a) replyTooSmall)) (start-open (modelOf a) (a .sender .queue))
 
+start-becomes : (a : Peer) → Fits a → (short : Bool) → Bare modelOf (startEffect short (modelOf a)) a a
+start-becomes a f true = becomes-same replyTooSmall (λ e. omega (arith, e)) f
+start-becomes a f false = becomes-same noEntry (λ e. omega (arith, e)) f
+
+-- ---- timer: 26, 24 or all sent
+abbrev timerEffect : Bool → Bool → Model → Effect
+timerEffect short some m = cond short (refuse m replyTooSmall) (cond some (effect done (dataPackets (m .base) (m .queue)) m) (refuse m noEntry))
+
+timer-open : (m : Model) (q : Packets) → timerStep m (stateOf q) ≡ cond (ltb 0 (length q)) (effect done (dataPackets (m .base) (m .queue)) m) (refuse m noEntry)
+timer-open m [] = refl
+timer-open m (p ∷ q) = rw (lt-ltb 0 (suc (length q)) (omega arith))
+
+timerOf-open : (a : Peer) (n : ℕ) → timerOf slots (modelOf a) n ≡ timerEffect (ltb n replySize) (ltb 0 (length (a .sender .queue))) (modelOf a)
+unfolding timerOf
+timerOf-open a n = ap (cond (ltb n replySize) (refuse (modelOf a) replyTooSmall)) (timer-open (modelOf a) (a .sender .queue))
+
+timer-becomes : (a : Peer) → Fits a → (short some : Bool) → Bare modelOf (timerEffect short some (modelOf a)) a (cond (not short && some) (sendAll rules a) a)
+timer-becomes a f true some = becomes-same replyTooSmall (λ e. omega (arith, e)) f
+timer-becomes a f false false = becomes-same noEntry (λ e. omega (arith, e)) f
+timer-becomes a f false true = record {
+  model = refl;
+  stays = λ e. refl;
+  code = λ e. omega (arith, e);
+  sends = numbered (a .sender .base) (a .sender .queue);
+  packets = dataPackets-numbered (a .sender .base) (a .sender .queue);
+  line = refl;
+  accepts = sym (append-nil (a .sender .accepted));
+  delivers = sym (append-nil (a .receiver .delivered));
+  sent = refl;
+  loses = sym (add-zero (a .sender .lost));
+  fits = fits-sendAll rules a f;
+  sound = sound-numbered (a .sender .base) (a .sender .queue) (f .base) (f .short);
+}
+
 -- ---- payload: 26, 21, 22 or accepted
-abbrev pub payloadEffect : Bool → Bool → Bool → Model → Octets → Effect
+abbrev payloadEffect : Bool → Bool → Bool → Model → Octets → Effect
 payloadEffect short long full m p = cond short (refuse m replyTooSmall) (cond long (refuse m payloadTooLong) (cond full (refuse m queueFull) (queued m p)))
 
 is-open : (q : Packets) → isOpen (stateOf q) ≡ true
 is-open [] = refl
 is-open (p ∷ q) = refl
 
-pub payloadOf-open : (a : Peer) (p : Octets) (n : ℕ)
+payloadOf-open : (a : Peer) (p : Octets) (n : ℕ)
     → payloadOf slots (modelOf a) p n ≡ payloadEffect (ltb n replySize) (ltb maxPayload (length p)) (leb slots (length (a .sender .queue))) (modelOf a) p
 unfolding payloadOf
 payloadOf-open a p n = λ i. cond (ltb n replySize) (refuse (modelOf a) replyTooSmall)
@@ -125,57 +124,45 @@ payloadOf-open a p n = λ i. cond (ltb n replySize) (refuse (modelOf a) replyToo
     (cond (not (is-open (a .sender .queue) i)) (refuse (modelOf a) notOpen)
     (cond (leb slots (length (a .sender .queue))) (refuse (modelOf a) queueFull) (queued (modelOf a) p))))
 
+state-snoc : (q : Packets) (p : Octets) → stateOf (p ∷ []) ≡ stateOf (q ++ (p ∷ []))
+state-snoc [] p = refl
+state-snoc (x ∷ q) p = refl
+
+sound-first : (once : Bool) (x : ℕ) (p : Octets) → x < modulus → length p ≤ maxPayload → All Sound (firstSent once x p)
+sound-first true x p h k = ((h, k), tt)
+sound-first false x p h k = tt
+
+payload-becomes : (a : Peer) → Fits a → (p : Octets) (short long full : Bool) → (long ≡ false → length p ≤ maxPayload)
+    → (full ≡ false → length (a .sender .queue) < slots)
+    → Offer modelOf p (payloadEffect short long full (modelOf a) p) a (cond ((not short && not long) && not full) (accept rules p a) a)
+payload-becomes a f p true long full hl hf = becomes-same replyTooSmall (λ e. omega (arith, e)) f
+payload-becomes a f p false true full hl hf = becomes-same payloadTooLong (λ e. omega (arith, e)) f
+payload-becomes a f p false false true hl hf = becomes-same queueFull (λ e. omega (arith, e)) f
+payload-becomes a f p false false false hl hf = record {
+  model = λ i. rebuilt opened (state-snoc (a .sender .queue) p i) (a .sender .queue ++ (p ∷ [])) (a .sender .base) (a .receiver .expected);
+  stays = λ e. absurd (false≢true e);
+  code = λ e. omega (arith, e);
+  sends = firstSent (rules .atOnce) (advance (a .sender .base) (length (a .sender .queue))) p;
+  packets = refl;
+  line = refl;
+  accepts = refl;
+  delivers = sym (append-nil (a .receiver .delivered));
+  sent = refl;
+  loses = sym (add-zero (a .sender .lost));
+  fits = fits-accept rules a f p (hf refl) (hl refl);
+  sound = sound-first (rules .atOnce) (advance (a .sender .base) (length (a .sender .queue))) p (omega arith) (hl refl);
+}
+
 -- there is room where the queue is not full
-pub ltb-not-leb : (m n : ℕ) → ltb m n ≡ not (leb n m)
+ltb-not-leb : (m n : ℕ) → ltb m n ≡ not (leb n m)
 ltb-not-leb m n = by-case (leb n m) refl
   where
     by-case : (b : Bool) → leb n m ≡ b → ltb m n ≡ not b
     by-case true e = le-ltb m n (leb-true n m e)
     by-case false e = lt-ltb m n (leb-false n m e)
 
-state-snoc : (q : Packets) (p : Octets) → stateOf (p ∷ []) ≡ stateOf (q ++ (p ∷ []))
-state-snoc [] p = refl
-state-snoc (x ∷ q) p = refl
-
-pub withPayload-accept : (a : Peer) (p : Octets) → withPayload (modelOf a) p ≡ modelOf (accept rules p a)
-withPayload-accept a p =
-    λ i. rebuilt opened (state-snoc (a .sender .queue) p i) (a .sender .queue ++ (p ∷ [])) (a .sender .base) (a .receiver .expected)
-
-sound-first : (once : Bool) (x : ℕ) (p : Octets) → x < modulus → length p ≤ maxPayload → All Sound (firstSent once x p)
-sound-first true x p h k = ((h, k), tt)
-sound-first false x p h k = tt
-
--- the payload is queued; what is sent at once is what the rules say
-pub becomes-accept : (a : Peer) (p : Octets) {up : Packets} → Fits a → length (a .sender .queue) < slots → length p ≤ maxPayload
-    → a .sender .accepted ++ (p ∷ []) ≡ a .sender .accepted ++ up
-    → Becomes (queued (modelOf a) p) a (accept rules p a) (firstSent (rules .atOnce) (advance (a .sender .base) (length (a .sender .queue))) p) up [] 0
-becomes-accept a p f h k accepts = record {
-  model = withPayload-accept a p;
-  packets = refl;
-  code = λ e. omega (arith, e);
-  line = refl;
-  accepts = accepts;
-  delivers = sym (append-nil (a .receiver .delivered));
-  sent = refl;
-  loses = sym (add-zero (a .sender .lost));
-  fits = fits-accept a f p h k;
-  sound = sound-first (rules .atOnce) (advance (a .sender .base) (length (a .sender .queue))) p (omega arith) k;
-}
-
--- ---- timer: 26, 24 or all sent
-abbrev pub timerEffect : Bool → Bool → Model → Effect
-timerEffect short some m = cond short (refuse m replyTooSmall) (cond some (effect done (dataPackets (m .base) (m .queue)) m) (refuse m noEntry))
-
-timer-open : (m : Model) (q : Packets) → timerStep m (stateOf q) ≡ cond (ltb 0 (length q)) (effect done (dataPackets (m .base) (m .queue)) m) (refuse m noEntry)
-timer-open m [] = refl
-timer-open m (p ∷ q) = rw (lt-ltb 0 (suc (length q)) (omega arith))
-
-pub timerOf-open : (a : Peer) (n : ℕ) → timerOf slots (modelOf a) n ≡ timerEffect (ltb n replySize) (ltb 0 (length (a .sender .queue))) (modelOf a)
-unfolding timerOf
-timerOf-open a n = ap (cond (ltb n replySize) (refuse (modelOf a) replyTooSmall)) (timer-open (modelOf a) (a .sender .queue))
-
 -- ---- DATA: 26, 25 or delivered
-abbrev pub dataEffect : Bool → Bool → Model → Effect
+abbrev dataEffect : Bool → Bool → Model → Effect
 dataEffect short hit m =
     cond short (refuse m replyTooSmall)
     (cond hit
@@ -186,14 +173,21 @@ data-open : (m : Model) (q : Packets) (x : ℕ) → dataStep m (stateOf q) x ≡
 data-open m [] x = refl
 data-open m (p ∷ q) x = refl
 
-pub arrivalOf-data : (a : Peer) (x : ℕ) (p : Octets) (n : ℕ) → Sound (dataPdu x p)
+arrivalOf-data : (a : Peer) (x : ℕ) (p : Octets) (n : ℕ) → Sound (dataPdu x p)
     → arrivalOf slots (modelOf a) (encode (dataPdu x p)) n ≡ dataEffect (ltb n replySize) (eqb x (a .receiver .expected)) (modelOf a)
 unfolding arrivalOf
 arrivalOf-data a x p n h =
     ap (cond (ltb n replySize) (refuse (modelOf a) replyTooSmall)) (ap (packetStep (modelOf a)) (kindOf-data x p h) ∙ data-open (modelOf a) (a .sender .queue) x)
 
+data-becomes : (a : Peer) → Fits a → (x : ℕ) (p : Octets) (short hit : Bool)
+    → Arrival modelOf (dataPdu x p) (dataEffect short hit (modelOf a)) a (cond (not short) (takeData rules hit p a) a)
+data-becomes a f x p true hit = becomes-same replyTooSmall (λ e. omega (arith, e)) f
+data-becomes a f x p false true = becomes-answer rules (delivering p (a .receiver)) refl refl (λ e. omega (arith, e)) refl refl (fits-takeData rules a f true p) (omega arith)
+data-becomes a f x p false false =
+    becomes-answer rules (a .receiver) refl refl (λ e. omega (arith, e)) refl (sym (append-nil (a .receiver .delivered))) (fits-takeData rules a f false p) (f .expected)
+
 -- ---- DACK: 26, 24 or slots freed
-abbrev pub dackEffect : Bool → Bool → Model → ℕ → Effect
+abbrev dackEffect : Bool → Bool → Model → ℕ → Effect
 dackEffect short some m d = cond short (refuse m replyTooSmall) (cond some (effect done [] (without m d)) (refuse m noEntry))
 
 -- a queue without payloads is acknowledged by no distance
@@ -212,9 +206,90 @@ dack-open m (p ∷ q) x e =
     let d : ℕ = distance (m .base) x in
     ap (λ (t : Packets). cond (ltb 0 d && leb d (length t)) (effect done [] (without m d)) (refuse m noEntry)) e
 
-pub arrivalOf-dack : (a : Peer) (x : ℕ) (n : ℕ) → x < modulus
+arrivalOf-dack : (a : Peer) (x : ℕ) (n : ℕ) → x < modulus
     → arrivalOf slots (modelOf a) (encode (dackPdu x)) n
     ≡ dackEffect (ltb n replySize) (acknowledges (distance (a .sender .base) x) (a .sender .queue)) (modelOf a) (distance (a .sender .base) x)
 unfolding arrivalOf
 arrivalOf-dack a x n h =
     ap (cond (ltb n replySize) (refuse (modelOf a) replyTooSmall)) (ap (packetStep (modelOf a)) (kindOf-dack x h) ∙ dack-open (modelOf a) (a .sender .queue) x refl)
+
+dack-becomes : (a : Peer) → Fits a → (x d : ℕ) (short some : Bool)
+    → Arrival modelOf (dackPdu x) (dackEffect short some (modelOf a) d) a
+    (withSender (cond (not short) (cond some (freed d (a .sender)) (a .sender)) (lostOne (a .sender))) a)
+dack-becomes a f x d true some =
+    becomes-sender (lostOne (a .sender)) refl (λ e. refl) (λ e. omega (arith, e)) refl refl refl (omega arith) (fits-lostOne a f)
+dack-becomes a f x d false false = becomes-same noEntry (λ e. omega (arith, e)) f
+dack-becomes a f x d false true =
+    becomes-sender (freed d (a .sender)) refl (λ e. absurd (false≢true e)) (λ e. omega (arith, e)) refl refl refl (omega arith) (fits-freed a f d)
+
+-- ---- all of them
+arrival-becomes : (a : Peer) → Fits a → (k : Packet) → Sound k → (before : Octets)
+    → Arrival modelOf k (arrivalOf slots (modelOf a) (encode k) (length before)) a (reached rules (not (tooShort before)) k a)
+arrival-becomes a f (dataPdu x p) h before =
+    subst (λ (d : Effect). Arrival modelOf (dataPdu x p) d a (reached rules (not (tooShort before)) (dataPdu x p) a)) (sym (arrivalOf-data a x p (length before) h))
+    (data-becomes a f x p (tooShort before) (eqb x (a .receiver .expected)))
+arrival-becomes a f (dackPdu x) h before =
+    let d = distance (a .sender .base) x in
+    subst (λ (d : Effect). Arrival modelOf (dackPdu x) d a (reached rules (not (tooShort before)) (dackPdu x) a)) (sym (arrivalOf-dack a x (length before) h))
+    (dack-becomes a f x d (tooShort before) (acknowledges d (a .sender .queue)))
+
+refused-short : (a : Peer) (k : Packet) → Sound k → (before : Octets)
+    → eqb (arrivalOf slots (modelOf a) (encode k) (length before) .code) replyTooSmall ≡ tooShort before
+refused-short a (dataPdu x p) h before =
+    ap (λ (d : Effect). eqb (d .code) replyTooSmall) (arrivalOf-data a x p (length before) h) ∙ by-case (tooShort before) (eqb x (a .receiver .expected))
+  where
+    by-case : (short hit : Bool) → eqb (dataEffect short hit (modelOf a) .code) replyTooSmall ≡ short
+    by-case true hit = refl
+    by-case false true = refl
+    by-case false false = refl
+refused-short a (dackPdu x) h before =
+    let d = distance (a .sender .base) x in
+    ap (λ (d : Effect). eqb (d .code) replyTooSmall) (arrivalOf-dack a x (length before) h) ∙ by-case (tooShort before) (acknowledges d (a .sender .queue))
+  where
+    by-case : (short some : Bool) → eqb (dackEffect short some (modelOf a) (distance (a .sender .base) x) .code) replyTooSmall ≡ short
+    by-case true some = refl
+    by-case false true = refl
+    by-case false false = refl
+
+pub simulates : Simulates rules modelOf
+simulates = record {
+  window = refl;
+  queue = λ a. refl;
+  relined = λ ks n a. refl;
+  value = value;
+  start = λ a f before. subst (λ (d : Effect). Bare modelOf d a a) (sym (startOf-open a (length before))) (start-becomes a f (tooShort before));
+  timer = λ a f before.
+      subst (λ (d : Effect). Bare modelOf d a (timedOut rules (not (tooShort before)) a)) (sym (timerOf-open a (length before)))
+      (timer-becomes a f (tooShort before) (ltb 0 (length (a .sender .queue))));
+  payload = λ a f p before.
+      subst (λ (d : Effect). Offer modelOf p d a (offered rules (passes p before) p a)) (sym (payloadOf-open a p (length before)))
+      (rw (ltb-not-leb (length (a .sender .queue)) slots)
+      (payload-becomes a f p (tooShort before) (ltb maxPayload (length p)) (leb slots (length (a .sender .queue)))
+      (ltb-false maxPayload (length p)) (leb-false slots (length (a .sender .queue)))));
+  arrival = arrival-becomes;
+  refused = refused-short;
+}
+
+-- ---- on the way to an open link, where the reply buffer is large enough
+abbrev pub resetting : Model
+resetting = inState Reset fresh
+
+module _ (n : ℕ) (h : replySize ≤ n) where
+  pub startOf-fresh : startOf slots fresh n ≡ effect done [] resetting
+  unfolding startOf
+  startOf-fresh = rw (le-ltb n replySize h)
+
+  pub timerOf-resetting : timerOf slots resetting n ≡ effect done (resetPacket ∷ []) resetting
+  unfolding timerOf
+  timerOf-resetting = rw (le-ltb n replySize h)
+
+  pub arrivalOf-reset : (m : Model) → m .ok ≡ true → arrivalOf slots m resetPacket n ≡ cleared m
+  unfolding arrivalOf
+  arrivalOf-reset m e = rw (e, le-ltb n replySize h)
+
+  pub arrivalOf-resetAck : arrivalOf slots resetting resetAckPacket n ≡ effect done [] opened
+  unfolding arrivalOf
+  arrivalOf-resetAck = rw (le-ltb n replySize h)
+
+pub cleared-opened : (m : Model) → m .ok ≡ true → cleared m .after ≡ opened
+cleared-opened m e = rw e

@@ -1,12 +1,15 @@
 pub mod Cases
 pub mod Codec
 pub mod Relation
+pub mod OneCall
+pub mod Simulates
 pub mod Effects
 pub mod Steps
 pub mod Runs
 pub mod Demand3
 pub mod Existence
-pub mod Worked
 pub mod Progress
+pub mod Theorems
+pub mod Worked
 pub mod Opening
 pub mod Links

@@ -17,7 +17,8 @@ use Rattle.dlc_pair.specs.Demand3.{Demand3}
 use Rattle.dlc_pair.specs.Opening.{openingEvents}
 use Rattle.dlc_pair.specs.Progress.{Enough}
 use Rattle.dlc_pair.proofs.Demand3.{demand-three}
-use Rattle.dlc_pair.proofs.Existence.{Covers, opened-value, history-exists, history-goes-on}
+use Rattle.dlc_pair.proofs.Existence.{Covers}
+use Rattle.dlc_pair.proofs.Theorems.{opened-value, history-exists, history-goes-on}
 use Rattle.dlc_pair.proofs.Opening.{fresh-value, opening-exists}
 
 -- each type has a value for every `Link`

@@ -1,25 +1,25 @@
 -- Opening: from a fresh link and any well-formed one (a fresh one too), start, timer and the arrivals of RESET and RESET_ACK lead to the world
 -- that demand 3 starts from, and demand 3 holds from there on. The theorems stand last. Assumes nothing.
-use Prim.Native.Nat.{ℕ, _≤_}
+use Prim.Native.Nat.{ℕ}
 use native.Mathlib.Omega.{arith}
 use mathlib.Core.Path.{_≡_, refl, sym, ap, subst, _∙_}
 use mathlib.Core.Logic.{_≢_}
-use mathlib.Core.Bool.{true, false, cond, _&&_}
+use mathlib.Core.Bool.{true, false, cond, _&&_, false≢true}
 use mathlib.Core.List.{List, [], _∷_, _++_}
 use lib.ListN.{length}
 use lib.Dec.{eqb}
-use borrow.Author.Tests.{le-ltb}
 use Rattle.dlc_table.specs.declared.State.{State}
 use Rattle.dlc_table.specs.declared.State.the-variants.{Idle, Reset, Data}
 use Rattle.dlc_table.specs.Answers.{done, replyTooSmall, badLink, refuses}
 use Rattle.dlc_table.specs.Model.{Model, inState, fresh, opened}
 use Rattle.dlc_table.specs.Events.{Effect, effect, cleared, startOf, timerOf, arrivalOf}
 use Rattle.dlc_answer.specs.declared.Answer.{Answer}
-use Rattle.dlc.specs.Limits.{slots, replySize, resetPacket, resetAckPacket}
+use Rattle.dlc.specs.Limits.{slots, resetPacket, resetAckPacket}
 use Rattle.dlc.specs.View.{stateFits}
 use Rattle.dlc_answer.specs.Delivered.{deliveredPart}
 use Rattle.dlc.specs.Calls.{Meets, StartCall, TimerCall}
 use Rattle.dlc.proofs.Values.{linkOf, view-linkOf}
+use Rattle.dlc_run.proofs.Copied.{copiedBy-packets}
 use Rattle.dlc_run.specs.Replies.{Octets, Packets, isData, isDack, Reply, copiedBy}
 use Rattle.window.specs.Sides.{left, right}
 use Rattle.window.specs.Events.{fresh as freshPeer}
@@ -29,33 +29,11 @@ use Rattle.dlc_pair.specs.Demand3.{Demand3}
 use Rattle.dlc_pair.specs.Opening.{openingEvents, Stands}
 use Rattle.dlc_pair.specs.Progress.{Enough}
 use Rattle.dlc_pair.proofs.Codec.{count-++}
-use Rattle.dlc_pair.proofs.Relation.{copiedBy-packets, never-snoc, Follows}
+use Rattle.dlc_pair.proofs.Relation.{fits-fresh, Follows}
+use Rattle.dlc_pair.proofs.OneCall.{never-snoc}
+use Rattle.dlc_pair.proofs.Effects.{modelOf, resetting, startOf-fresh, timerOf-resetting, arrivalOf-reset, arrivalOf-resetAck, cleared-opened}
 use Rattle.dlc_pair.proofs.Demand3.{demand-three-from}
-use Rattle.dlc_pair.proofs.Existence.{Covers, moves, reply}
-
--- ---- the effects of the four calls, where the reply buffer is large enough
-abbrev resetting : Model
-resetting = inState Reset fresh
-
-module _ (n : ℕ) (h : replySize ≤ n) where
-  startOf-fresh : startOf slots fresh n ≡ effect done [] resetting
-  unfolding startOf
-  startOf-fresh = rw (le-ltb n replySize h)
-
-  timerOf-resetting : timerOf slots resetting n ≡ effect done (resetPacket ∷ []) resetting
-  unfolding timerOf
-  timerOf-resetting = rw (le-ltb n replySize h)
-
-  arrivalOf-reset : (m : Model) → m .ok ≡ true → arrivalOf slots m resetPacket n ≡ cleared m
-  unfolding arrivalOf
-  arrivalOf-reset m e = rw (e, le-ltb n replySize h)
-
-  arrivalOf-resetAck : arrivalOf slots resetting resetAckPacket n ≡ effect done [] opened
-  unfolding arrivalOf
-  arrivalOf-resetAck = rw (le-ltb n replySize h)
-
-cleared-opened : (m : Model) → m .ok ≡ true → cleared m .after ≡ opened
-cleared-opened m e = rw e
+use Rattle.dlc_pair.proofs.Existence.{Covers, reply}
 
 -- ---- an end on the way
 stands-fresh : {L : Type 0} {v : L → Model} (l : L) {m : Model} → v l ≡ m → Stands v (freshEnd l) m []
@@ -130,7 +108,8 @@ empty-value covers s h =
 -- a call whose effect is known may give back a link of the model after it
 reply-known : {L : Type 0} {v : L → Model} (d : Effect) {d′ : Effect} → d ≡ d′ → (l l″ : L) (before : Octets) → v l″ ≡ d′ .after → refuses (d′ .code) ≡ false
     → Reply (Meets v d l before)
-reply-known d e l l″ before h z = reply d l before (moves l″ (h ∙ ap (λ (t : Effect). t .after) (sym e)) (ap (λ (t : Effect). refuses (t .code)) e ∙ z))
+reply-known d e l l″ before h z = reply d l before l″ (h ∙ ap (λ (t : Effect). t .after) (sym e))
+    (λ t. absurd (false≢true (sym z ∙ ap (λ (t : Effect). refuses (t .code)) (sym e) ∙ t)))
 
 -- ---- the four calls, one after another
 module _ {L : Type 0} (v : L → Model) (l l′ : L) (e : v l ≡ fresh) (e′ : v l′ .ok ≡ true) (b₁ b₂ b₃ b₄ : Octets)
@@ -197,7 +176,7 @@ module _ {L : Type 0} (v : L → Model) (l l′ : L) (e : v l ≡ fresh) (e′ :
       (g₁, (g₂, (g₃, (g₄, tt))))
 
 -- from a world that opening has led to, demand 3 holds
-follows-opened : {L : Type 0} {v : L → Model} {e : End L} → Stands v e opened [] → Follows v e freshPeer
+follows-opened : {L : Type 0} {v : L → Model} {e : End L} → Stands v e opened [] → Follows modelOf v e freshPeer
 follows-opened s = record {
   model = s .model;
   line = s .line;
@@ -206,7 +185,7 @@ follows-opened s = record {
   sent = s .sent;
   lost = s .lost;
   never = s .never;
-  fits = record { base = omega arith; expected = omega arith; short = tt; few = omega arith };
+  fits = fits-fresh;
   sound = tt;
 }
 

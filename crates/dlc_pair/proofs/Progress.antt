@@ -1,4 +1,5 @@
--- Progress and recovery, from every world that a history reaches. The theorems stand last. Assumes nothing.
+-- Progress and recovery, from every world that a history reaches, of whatever rules and models the step table simulates. They stand last; Theorems
+-- states them of this link. Assumes nothing.
 use Prim.Native.Nat.{ℕ, zero, suc, _+_, _≤_}
 use native.Mathlib.Omega.{arith}
 use mathlib.Core.Path.{_≡_, refl, sym, ap, subst, _∙_}
@@ -6,24 +7,22 @@ use mathlib.Core.Bool.{Bool, true, not}
 use mathlib.Core.List.{List, [], _∷_, _++_, map, map-append}
 use lib.ListN.{length, replicate, length-replicate, length-map}
 use borrow.Author.Tests.{le-ltb}
-use Rattle.dlc_table.specs.Model.{Model, opened}
+use Rattle.dlc_table.specs.Model.{Model}
 use Rattle.dlc.specs.Limits.{slots, replySize}
 use Rattle.dlc_run.specs.Replies.{Octets}
 use Rattle.window.specs.Sides.{Side, left, right, opposite, Both, endAt}
 use Rattle.window.specs.Packets.{Packet}
-use Rattle.window.specs.Ends.{End as Peer}
+use Rattle.window.specs.Ends.{Rules, Lawful, End as Peer}
 use Rattle.window.specs.Events.{timeout, receive, Event as PacketEvent, start as packetStart, run}
 use Rattle.window.specs.Claim.{exchange as packetExchange, Settled as PacketSettled, recovery as packetRecovery, Recovered as PacketRecovered}
 use Rattle.window.proofs.Progress.{progress as packets-progress, recovers as packets-recover}
-use Rattle.dlc_pair.specs.World.{End, World, initial}
+use Rattle.dlc_pair.specs.World.{End, World}
 use Rattle.dlc_pair.specs.History.{Event, History, final}
 use Rattle.dlc_pair.specs.Progress.{Enough, AllEnough, arrivals, exchange, Settled, recovery, Recovered}
-use Rattle.dlc_pair.specs.Rules.{rules}
 use Rattle.dlc_pair.proofs.Codec.{encode}
 use Rattle.dlc_pair.proofs.Relation.{Follows, BothFollow}
-use Rattle.dlc_pair.proofs.Effects.{lawful}
-use Rattle.dlc_pair.proofs.Steps.{tooShort}
-use Rattle.dlc_pair.proofs.Runs.{eventOf, runOf, run-follows, follow-initial}
+use Rattle.dlc_pair.proofs.Simulates.{tooShort, Simulates}
+use Rattle.dlc_pair.proofs.Runs.{eventOf, runOf, run-follows}
 
 -- ---- the packet system's exchange
 enough-long : (b : Octets) → Enough b → not (tooShort b) ≡ true
@@ -72,69 +71,68 @@ module _ (b : Octets) (h : Enough b) where
       events-++ (arrivals right one) _ (arrivals-replicate right n) second
 
 -- ---- read off at the ends that follow
-end-follows : {L : Type 0} {v : L → Model} (d : Side) {w : World L} {s : Both Peer} → BothFollow v w s → Follows v (endAt d w) (endAt d s)
+end-follows : {modelOf : Peer → Model} {L : Type 0} {v : L → Model} (d : Side) {w : World L} {s : Both Peer} → BothFollow modelOf v w s → Follows modelOf v (endAt d w) (endAt d s)
 end-follows left f = f .left
 end-follows right f = f .right
 
-line-nil : {L : Type 0} {v : L → Model} {e : End L} {a : Peer} → Follows v e a → e .line ≡ [] → a .line ≡ []
+line-nil : {modelOf : Peer → Model} {L : Type 0} {v : L → Model} {e : End L} {a : Peer} → Follows modelOf v e a → e .line ≡ [] → a .line ≡ []
 line-nil {e} {a} f h = from-map (a .line) (sym (f .line) ∙ h)
   where
     from-map : (ks : List Packet) → map encode ks ≡ [] → ks ≡ []
     from-map [] h = refl
     from-map (k ∷ ks) h = cc
 
-settled-follows : {L : Type 0} {v : L → Model} (d : Side) {w z : World L} {s t : Both Peer} → BothFollow v w s → BothFollow v z t → PacketSettled d s t → Settled v d w z
-settled-follows d f g p = record {
-  queue = ap (λ (m : Model). m .queue) (end-follows d g .model) ∙ p .queue;
-  accepted = end-follows d g .accepted ∙ p .accepted ∙ sym (end-follows d f .accepted);
-  delivered = end-follows (opposite d) g .delivered ∙ p .delivered ∙ sym (end-follows d f .accepted);
-  lines = (g .left .line ∙ ap (map encode) (p .lines .0), g .right .line ∙ ap (map encode) (p .lines .1));
-}
-
-recovered-follows : {L : Type 0} {v : L → Model} {w z : World L} {s t : Both Peer} → BothFollow v w s → BothFollow v z t → PacketRecovered s t → Recovered v w z
-recovered-follows f g p = record {
-  queues = (ap (λ (m : Model). m .queue) (g .left .model) ∙ p .queues .0, ap (λ (m : Model). m .queue) (g .right .model) ∙ p .queues .1);
-  lines = (g .left .line ∙ ap (map encode) (p .lines .0), g .right .line ∙ ap (map encode) (p .lines .1));
-  leftToRight = g .right .delivered ∙ p .leftToRight ∙ sym (f .left .accepted);
-  rightToLeft = g .left .delivered ∙ p .rightToLeft ∙ sym (f .right .accepted);
-}
-
-line-length : {L : Type 0} {v : L → Model} {e : End L} {a : Peer} {n : ℕ} → Follows v e a → length (e .line) ≤ n → length (a .line) ≤ n
+line-length : {modelOf : Peer → Model} {L : Type 0} {v : L → Model} {e : End L} {a : Peer} {n : ℕ} → Follows modelOf v e a → length (e .line) ≤ n → length (a .line) ≤ n
 line-length {e} {a} f h = omega (arith, ap length (f .line), length-map (a .line) encode)
 
--- once both lines are empty: one timer call, at least as many arrivals at the other end as payloads are queued, and at least as many at this
--- end; every reply buffer is large enough and nothing is lost
-pub progress : {L : Type 0} (v : L → Model) (l l′ : L) → v l ≡ opened → v l′ ≡ opened → (es : List Event) (h : History v es (initial l l′))
-    → final v es (initial l l′) h .left .line ≡ []
-    → final v es (initial l l′) h .right .line ≡ []
-    → (d : Side) (b : Octets) (bs cs : List Octets)
-    → Enough b
-    → AllEnough bs
-    → AllEnough cs
-    → length (v (endAt d (final v es (initial l l′) h) .link) .queue) ≤ length bs
-    → length bs ≤ length cs
-    → (more : History v (exchange d b bs cs) (final v es (initial l l′) h))
-    → Settled v d (final v es (initial l l′) h) (final v (exchange d b bs cs) (final v es (initial l l′) h) more)
-progress v l l′ e e′ es h el er d b bs cs hb hbs hcs fewer less more =
-    let f : BothFollow v (final v es (initial l l′) h) (runOf es packetStart) = run-follows es (follow-initial l l′ e e′) h in
-    let queued : length (endAt d (runOf es packetStart) .sender .queue) ≤ length bs =
-    subst (λ (m : Model). length (m .queue) ≤ length bs) (end-follows d f .model) fewer in
-    let p = packets-progress rules lawful (map eventOf es) d (line-nil (f .left) el) (line-nil (f .right) er) (length bs) (length cs) queued less in
-    settled-follows d f (run-follows (exchange d b bs cs) f more)
-    (subst (λ (fs : List PacketEvent). PacketSettled d (runOf es packetStart) (run rules fs (runOf es packetStart))) (sym (exchange-packets d b bs cs hb hbs hcs)) p)
+module _ {rules : Rules} {modelOf : Peer → Model} (table : Simulates rules modelOf) {L : Type 0} {v : L → Model} where
+  queue-follows : {e : End L} {a : Peer} → Follows modelOf v e a → v (e .link) .queue ≡ a .sender .queue
+  queue-follows {a = a} f = ap (λ (m : Model). m .queue) (f .model) ∙ table .queue a
 
--- whatever is on the lines and in the queues: arrivals of what is on the lines, and an exchange of each end; every reply buffer is large enough
--- and nothing is lost. n is at least the packets on either line, and the slots of a queue
-pub recovers : {L : Type 0} (v : L → Model) (l l′ : L) → v l ≡ opened → v l′ ≡ opened → (es : List Event) (h : History v es (initial l l′)) (b : Octets)
-    → Enough b
-    → (n : ℕ)
-    → length (final v es (initial l l′) h .left .line) ≤ n
-    → length (final v es (initial l l′) h .right .line) ≤ n
-    → slots ≤ n
-    → (more : History v (recovery b n) (final v es (initial l l′) h))
-    → Recovered v (final v es (initial l l′) h) (final v (recovery b n) (final v es (initial l l′) h) more)
-recovers v l l′ e e′ es h b hb n hl hr hn more =
-    let f : BothFollow v (final v es (initial l l′) h) (runOf es packetStart) = run-follows es (follow-initial l l′ e e′) h in
-    let p = packets-recover rules lawful (map eventOf es) n (line-length (f .left) hl) (line-length (f .right) hr) hn in
-    recovered-follows f (run-follows (recovery b n) f more)
-    (subst (λ (fs : List PacketEvent). PacketRecovered (runOf es packetStart) (run rules fs (runOf es packetStart))) (sym (recovery-packets b hb n)) p)
+  settled-follows : (d : Side) {w z : World L} {s t : Both Peer} → BothFollow modelOf v w s → BothFollow modelOf v z t → PacketSettled d s t → Settled v d w z
+  settled-follows d f g p = record {
+    queue = queue-follows (end-follows d g) ∙ p .queue;
+    accepted = end-follows d g .accepted ∙ p .accepted ∙ sym (end-follows d f .accepted);
+    delivered = end-follows (opposite d) g .delivered ∙ p .delivered ∙ sym (end-follows d f .accepted);
+    lines = (g .left .line ∙ ap (map encode) (p .lines .0), g .right .line ∙ ap (map encode) (p .lines .1));
+  }
+
+  recovered-follows : {w z : World L} {s t : Both Peer} → BothFollow modelOf v w s → BothFollow modelOf v z t → PacketRecovered s t → Recovered v w z
+  recovered-follows f g p = record {
+    queues = (queue-follows (g .left) ∙ p .queues .0, queue-follows (g .right) ∙ p .queues .1);
+    lines = (g .left .line ∙ ap (map encode) (p .lines .0), g .right .line ∙ ap (map encode) (p .lines .1));
+    leftToRight = g .right .delivered ∙ p .leftToRight ∙ sym (f .left .accepted);
+    rightToLeft = g .left .delivered ∙ p .rightToLeft ∙ sym (f .right .accepted);
+  }
+
+  module _ (lawful : Lawful rules) {w : World L} (start : BothFollow modelOf v w packetStart) (es : List Event) (h : History v es w) where
+    -- once both lines are empty: one timer call, at least as many arrivals at the other end as payloads are queued, and at least as many at this
+    -- end; every reply buffer is large enough and nothing is lost
+    pub progress-from : final v es w h .left .line ≡ [] → final v es w h .right .line ≡ [] → (d : Side) (b : Octets) (bs cs : List Octets)
+        → Enough b
+        → AllEnough bs
+        → AllEnough cs
+        → length (v (endAt d (final v es w h) .link) .queue) ≤ length bs
+        → length bs ≤ length cs
+        → (more : History v (exchange d b bs cs) (final v es w h))
+        → Settled v d (final v es w h) (final v (exchange d b bs cs) (final v es w h) more)
+    progress-from el er d b bs cs hb hbs hcs fewer less more =
+        let s : Both Peer = runOf rules es packetStart in
+        let f : BothFollow modelOf v (final v es w h) s = run-follows table es start h in
+        let queued : length (endAt d s .sender .queue) ≤ length bs = omega (arith, ap length (queue-follows (end-follows d f)), fewer) in
+        let p = packets-progress rules lawful (map eventOf es) d (line-nil (f .left) el) (line-nil (f .right) er) (length bs) (length cs) queued less in
+        settled-follows d f (run-follows table (exchange d b bs cs) f more)
+        (subst (λ (fs : List PacketEvent). PacketSettled d s (run rules fs s)) (sym (exchange-packets d b bs cs hb hbs hcs)) p)
+
+    -- whatever is on the lines and in the queues: arrivals of what is on the lines, and an exchange of each end; every reply buffer is large enough
+    -- and nothing is lost. n is at least the packets on either line, and the slots of a queue
+    pub recovers-from : (b : Octets) → Enough b → (n : ℕ) → length (final v es w h .left .line) ≤ n → length (final v es w h .right .line) ≤ n → slots ≤ n
+        → (more : History v (recovery b n) (final v es w h))
+        → Recovered v (final v es w h) (final v (recovery b n) (final v es w h) more)
+    recovers-from b hb n hl hr hn more =
+        let s : Both Peer = runOf rules es packetStart in
+        let f : BothFollow modelOf v (final v es w h) s = run-follows table es start h in
+        let window : rules .window ≤ n = omega (arith, table .window, hn) in
+        let p = packets-recover rules lawful (map eventOf es) n (line-length (f .left) hl) (line-length (f .right) hr) window in
+        recovered-follows f (run-follows table (recovery b n) f more)
+        (subst (λ (fs : List PacketEvent). PacketRecovered s (run rules fs s)) (sym (recovery-packets b hb n)) p)

@@ -1,38 +1,28 @@
 -- Lists of events: every history of a list is followed by one run of the packet system, which the list alone decides. Assumes nothing.
-use native.Mathlib.Omega.{arith}
-use mathlib.Core.Path.{_≡_, refl, sym, ap, _∙_}
+use mathlib.Core.Path.{_≡_, sym, ap, _∙_}
 use mathlib.Core.List.{List, [], _∷_, map}
-use Rattle.dlc_table.specs.Model.{Model, opened}
+use Rattle.dlc_table.specs.Model.{Model}
 use Rattle.dlc_run.specs.Replies.{isData, isDack}
 use Rattle.window.specs.Sides.{Side, left, right, Both}
 use Rattle.window.specs.Packets.{countData, countDack}
-use Rattle.window.specs.Ends.{End as Peer}
-use Rattle.window.specs.Events.{Event as PacketEvent, fresh, start as packetStart, stepAt, run, Waits as PacketWaits, WaitsAt as PacketWaitsAt, TimerWaits as PacketTimerWaits}
-use Rattle.dlc_pair.specs.World.{count, freshEnd, World, initial}
+use Rattle.window.specs.Ends.{Rules, End as Peer}
+use Rattle.window.specs.Events.{Event as PacketEvent, stepAt, run, Waits as PacketWaits, WaitsAt as PacketWaitsAt, TimerWaits as PacketTimerWaits}
+use Rattle.dlc_pair.specs.World.{count, World}
 use Rattle.dlc_pair.specs.History.{Act, payload, timer, start, arrival, loss, Event, GivenAt, afterAt, History, final, Waits, WaitsAt, TimerWaits}
-use Rattle.dlc_pair.specs.Rules.{rules}
 use Rattle.dlc_pair.proofs.Codec.{count-data, count-dack}
-use Rattle.dlc_pair.proofs.Relation.{Follows, BothFollow, follow-mirror}
+use Rattle.dlc_pair.proofs.Relation.{BothFollow, follow-mirror}
+use Rattle.dlc_pair.proofs.Simulates.{Simulates}
 use Rattle.dlc_pair.proofs.Steps.{actOf, step-follows}
 
 abbrev pub eventOf : Event → PacketEvent
 eventOf e = record { side = e .side; act = actOf (e .act) }
 
 -- the packet system after the same events
-abbrev pub runOf : List Event → Both Peer → Both Peer
-runOf es s = run rules (map eventOf es) s
-
-pub stepAt-follows : {L : Type 0} {v : L → Model} (d : Side) (a : Act) {w : World L} {s : Both Peer} → BothFollow v w s → (g : GivenAt v d a w)
-    → BothFollow v (afterAt v d a w g) (stepAt rules d (actOf a) s)
-stepAt-follows left a f g = step-follows a f g
-stepAt-follows right a f g = follow-mirror (step-follows a (follow-mirror f) g)
-
-pub run-follows : {L : Type 0} {v : L → Model} (es : List Event) {w : World L} {s : Both Peer} → BothFollow v w s → (h : History v es w) → BothFollow v (final v es w h) (runOf es s)
-run-follows [] f h = f
-run-follows (e ∷ es) f h = run-follows es (stepAt-follows (e .side) (e .act) f (h .0)) (h .1)
+abbrev pub runOf : Rules → List Event → Both Peer → Both Peer
+runOf rules es s = run rules (map eventOf es) s
 
 -- ---- the timer's premise says the same of both
-module _ {L : Type 0} {v : L → Model} {w : World L} {s : Both Peer} (f : BothFollow v w s) where
+module _ {modelOf : Peer → Model} {L : Type 0} {v : L → Model} {w : World L} {s : Both Peer} (f : BothFollow modelOf v w s) where
   pub drained-data : count isData (w .left .line) ≡ countData (s .left .line)
   drained-data = ap (count isData) (f .left .line) ∙ count-data (s .left .line) (f .left .sound)
 
@@ -53,45 +43,46 @@ module _ {L : Type 0} {v : L → Model} {w : World L} {s : Both Peer} (f : BothF
   waits-back (arrival before) h = tt
   waits-back (loss n) h = tt
 
-waitsAt-follow : {L : Type 0} {v : L → Model} (c d : Side) (a : Act) {w : World L} {s : Both Peer} → BothFollow v w s → WaitsAt c d a w → PacketWaitsAt c d (actOf a) s
+waitsAt-follow : {modelOf : Peer → Model} {L : Type 0} {v : L → Model} (c d : Side) (a : Act) {w : World L} {s : Both Peer} → BothFollow modelOf v w s
+    → WaitsAt c d a w
+    → PacketWaitsAt c d (actOf a) s
 waitsAt-follow left left a f h = waits-follow f a h
 waitsAt-follow left right a f h = tt
 waitsAt-follow right left a f h = tt
 waitsAt-follow right right a f h = waits-follow (follow-mirror f) a h
 
-waitsAt-back : {L : Type 0} {v : L → Model} (c d : Side) (a : Act) {w : World L} {s : Both Peer} → BothFollow v w s → PacketWaitsAt c d (actOf a) s → WaitsAt c d a w
+waitsAt-back : {modelOf : Peer → Model} {L : Type 0} {v : L → Model} (c d : Side) (a : Act) {w : World L} {s : Both Peer} → BothFollow modelOf v w s
+    → PacketWaitsAt c d (actOf a) s
+    → WaitsAt c d a w
 waitsAt-back left left a f h = waits-back f a h
 waitsAt-back left right a f h = tt
 waitsAt-back right left a f h = tt
 waitsAt-back right right a f h = waits-back (follow-mirror f) a h
 
-pub timerWaits-follow : {L : Type 0} {v : L → Model} (d : Side) (es : List Event) {w : World L} {s : Both Peer} → BothFollow v w s → (h : History v es w) → TimerWaits v d es w h
-    → PacketTimerWaits rules d (map eventOf es) s
-timerWaits-follow d [] f h t = tt
-timerWaits-follow d (e ∷ es) {w} f h t =
-    let before : WaitsAt d (e .side) (e .act) w = t .0 in
-    (waitsAt-follow d (e .side) (e .act) f before, timerWaits-follow d es (stepAt-follows (e .side) (e .act) f (h .0)) (h .1) (t .1))
+-- ---- events, and lists of them
+module _ {rules : Rules} {modelOf : Peer → Model} (table : Simulates rules modelOf) where
+  pub stepAt-follows : {L : Type 0} {v : L → Model} (d : Side) (a : Act) {w : World L} {s : Both Peer} → BothFollow modelOf v w s → (g : GivenAt v d a w)
+      → BothFollow modelOf v (afterAt v d a w g) (stepAt rules d (actOf a) s)
+  stepAt-follows left a f g = step-follows table a f g
+  stepAt-follows right a f g = follow-mirror (step-follows table a (follow-mirror f) g)
 
-pub timerWaits-back : {L : Type 0} {v : L → Model} (d : Side) (es : List Event) {w : World L} {s : Both Peer} → BothFollow v w s → (h : History v es w)
-    → PacketTimerWaits rules d (map eventOf es) s
-    → TimerWaits v d es w h
-timerWaits-back d [] f h t = tt
-timerWaits-back d (e ∷ es) f h t =
-    (waitsAt-back d (e .side) (e .act) f (t .0), timerWaits-back d es (stepAt-follows (e .side) (e .act) f (h .0)) (h .1) (t .1))
+  pub run-follows : {L : Type 0} {v : L → Model} (es : List Event) {w : World L} {s : Both Peer} → BothFollow modelOf v w s → (h : History v es w)
+      → BothFollow modelOf v (final v es w h) (runOf rules es s)
+  run-follows [] f h = f
+  run-follows (e ∷ es) f h = run-follows es (stepAt-follows (e .side) (e .act) f (h .0)) (h .1)
 
--- ---- the start
-follows-fresh : {L : Type 0} {v : L → Model} (l : L) → v l ≡ opened → Follows v (freshEnd l) fresh
-follows-fresh l e = record {
-  model = e;
-  line = refl;
-  accepted = refl;
-  delivered = refl;
-  sent = refl;
-  lost = refl;
-  never = tt;
-  fits = record { base = omega arith; expected = omega arith; short = tt; few = omega arith };
-  sound = tt;
-}
+  -- the timer's premise
+  pub timerWaits-follow : {L : Type 0} {v : L → Model} (d : Side) (es : List Event) {w : World L} {s : Both Peer} → BothFollow modelOf v w s → (h : History v es w)
+      → TimerWaits v d es w h
+      → PacketTimerWaits rules d (map eventOf es) s
+  timerWaits-follow d [] f h t = tt
+  timerWaits-follow d (e ∷ es) {w} f h t =
+      let before : WaitsAt d (e .side) (e .act) w = t .0 in
+      (waitsAt-follow d (e .side) (e .act) f before, timerWaits-follow d es (stepAt-follows (e .side) (e .act) f (h .0)) (h .1) (t .1))
 
-pub follow-initial : {L : Type 0} {v : L → Model} (l l′ : L) → v l ≡ opened → v l′ ≡ opened → BothFollow v (initial l l′) packetStart
-follow-initial l l′ e e′ = record { left = follows-fresh l e; right = follows-fresh l′ e′ }
+  pub timerWaits-back : {L : Type 0} {v : L → Model} (d : Side) (es : List Event) {w : World L} {s : Both Peer} → BothFollow modelOf v w s → (h : History v es w)
+      → PacketTimerWaits rules d (map eventOf es) s
+      → TimerWaits v d es w h
+  timerWaits-back d [] f h t = tt
+  timerWaits-back d (e ∷ es) f h t =
+      (waitsAt-back d (e .side) (e .act) f (t .0), timerWaits-back d es (stepAt-follows (e .side) (e .act) f (h .0)) (h .1) (t .1))

@@ -1,21 +1,23 @@
 -- A worked run with losses, repeats, refusals and a restart of the numbers, and a run that meets the bound with equality. What is said holds of
 -- EVERY history of these events; the packet system's run is computed. Assumes nothing.
-use Prim.Native.Nat.{ℕ, zero, suc, _+_, _*_}
+use Prim.Native.Nat.{ℕ, zero, suc, _+_, _-_, _*_, _%_}
 use mathlib.Core.Path.{_≡_, refl, sym, ap, _∙_}
 use mathlib.Core.List.{List, [], _∷_, _++_, map}
 use lib.Dec.{T}
 use lib.ListN.{length, replicate}
 use Rattle.dlc_table.specs.Model.{Model, opened}
-use Rattle.dlc.specs.Limits.{slots, replySize}
+use Rattle.dlc.specs.Limits.{modulus, slots, maxPayload, replySize}
 use Rattle.dlc_run.specs.Replies.{Octets, Packets}
 use Rattle.window.specs.Sides.{Side, left, right}
-use Rattle.window.specs.Events.{start as packetStart}
+use Rattle.window.specs.Ends.{Rules, End as Peer}
+use Rattle.window.specs.Events.{fresh, start as packetStart}
 use Rattle.window.proofs.Deciding.{timerWaits, timerWaits-true}
 use Rattle.dlc_pair.specs.World.{dataSent, initial}
 use Rattle.dlc_pair.specs.History.{Act, payload, timer, arrival, loss, Event, after, History, final, TimerWaits}
-use Rattle.dlc_pair.specs.Rules.{rules}
-use Rattle.dlc_pair.proofs.Relation.{BothFollow}
-use Rattle.dlc_pair.proofs.Runs.{eventOf, runOf, run-follows, timerWaits-back, follow-initial}
+use Rattle.dlc_pair.proofs.Relation.{BothFollow, follow-initial}
+use Rattle.dlc_pair.proofs.Simulates.{Simulates}
+use Rattle.dlc_pair.proofs.Effects.{simulates}
+use Rattle.dlc_pair.proofs.Runs.{eventOf, runOf, run-follows, timerWaits-back}
 
 -- ---- at an empty line an arrival and a loss change nothing; L is a type of links, v its view
 pub arrival-nothing : {L : Type 0} (v : L → Model) (l l′ : L) (before : Octets) → after v (arrival before) (initial l l′) tt ≡ initial l l′
@@ -24,13 +26,14 @@ arrival-nothing v l l′ before = refl
 pub loss-nothing : {L : Type 0} (v : L → Model) (l l′ : L) (n : ℕ) → after v (loss n) (initial l l′) tt ≡ initial l l′
 loss-nothing v l l′ n = refl
 
--- ---- what a run gives, of every history of its events
-module _ {L : Type 0} (v : L → Model) (l l′ : L) (e : v l ≡ opened) (e′ : v l′ ≡ opened) (es : List Event) (h : History v es (initial l l′)) where
-  followed : BothFollow v (final v es (initial l l′) h) (runOf es packetStart)
-  followed = run-follows es (follow-initial l l′ e e′) h
+-- ---- what a run gives, of every history of its events; of whatever rules and models the step table simulates
+module _ {rules : Rules} {modelOf : Peer → Model} (table : Simulates rules modelOf) {L : Type 0} (v : L → Model) (l l′ : L)
+    (e : v l ≡ modelOf fresh) (e′ : v l′ ≡ modelOf fresh) (es : List Event) (h : History v es (initial l l′)) where
+  followed : BothFollow modelOf v (final v es (initial l l′) h) (runOf rules es packetStart)
+  followed = run-follows table es (follow-initial modelOf l l′ e e′) h
 
   waited : (d : Side) → T (timerWaits rules d (map eventOf es) packetStart) → TimerWaits v d es (initial l l′) h
-  waited d t = timerWaits-back d es (follow-initial l l′ e e′) h (timerWaits-true rules d (map eventOf es) packetStart t)
+  waited d t = timerWaits-back table d es (follow-initial modelOf l l′ e e′) h (timerWaits-true rules d (map eventOf es) packetStart t)
 
 -- ---- events
 abbrev buffer : Octets
@@ -50,59 +53,64 @@ offered ps = map (λ (p : Octets). at left (payload p buffer)) ps
 abbrev arrivals : ℕ → Side → List Event
 arrivals n d = replicate n (at d (arrival buffer))
 
--- seven payloads are offered, sent, delivered and acknowledged
+-- as many payloads as there are slots are offered, sent, delivered and acknowledged
 abbrev wholeRound : ℕ → List Event
 wholeRound n = offered (payloadsFrom slots n) ++ (at left (timer buffer) ∷ []) ++ arrivals slots right ++ arrivals slots left
 
--- seven are queued; then 22, 26, 21, 26 are answered and an arrival finds nothing. All are sent and the third is lost; two are delivered.
--- The five that are left are sent again, and the first is refused by a short buffer: 26, lost. They are sent once more and delivered, and
+-- the queue is filled; then 22, 26, 21, 26 are answered and an arrival finds nothing. All are sent and the third is lost; two are delivered.
+-- Those that are left are sent again, and the first is refused by a short buffer: 26, lost. They are sent once more and delivered, and
 -- a last timer call answers 24
 abbrev lossyRound : List Event
 lossyRound =
     offered (payloadsFrom slots 1)
     ++ (at left (payload (9 ∷ []) buffer) ∷ at left (payload (9 ∷ []) []) ∷ [])
-    ++ (at left (payload (replicate 257 9) buffer) ∷ at left (timer []) ∷ at left (arrival buffer) ∷ [])
+    ++ (at left (payload (replicate (maxPayload + 1) 9) buffer) ∷ at left (timer []) ∷ at left (arrival buffer) ∷ [])
     ++ (at left (timer buffer) ∷ at left (loss 2) ∷ at left (loss 50) ∷ [])
-    ++ arrivals 6 right ++ arrivals 6 left
+    ++ arrivals (slots - 1) right ++ arrivals (slots - 1) left
     ++ (at left (timer buffer) ∷ at right (arrival []) ∷ [])
-    ++ arrivals 4 right ++ arrivals 4 left
+    ++ arrivals (slots - 3) right ++ arrivals (slots - 3) left
     ++ (at left (timer buffer) ∷ [])
-    ++ arrivals 5 right ++ arrivals 5 left
+    ++ arrivals (slots - 2) right ++ arrivals (slots - 2) left
     ++ (at left (timer buffer) ∷ [])
 
 abbrev pub workedEvents : List Event
-workedEvents = lossyRound ++ wholeRound 8 ++ wholeRound 15
+workedEvents = lossyRound ++ wholeRound (slots + 1) ++ wholeRound (2 * slots + 1)
 
-pub worked-length : length workedEvents ≡ 93
+pub worked-length : length workedEvents ≡ 13 * slots + 2
 worked-length = refl
 
--- 21 payloads accepted and delivered, 31 DATA sent, 2 packets lost; the numbers have run past 15, and the next is 5
+-- as many payloads as three queues hold are accepted and delivered. 2 packets are lost, and all of the first queue but two payloads is sent three
+-- times; the numbers have begun again
 pub record Worked {L : Type 0} (v : L → Model) (l l′ : L) (h : History v workedEvents (initial l l′)) : Type 0 where
-  pub accepted : final v workedEvents (initial l l′) h .left .accepted ≡ payloadsFrom 21 1
-  pub delivered : final v workedEvents (initial l l′) h .right .delivered ≡ payloadsFrom 21 1
-  pub sent : dataSent (final v workedEvents (initial l l′) h .left) ≡ 31
+  pub accepted : final v workedEvents (initial l l′) h .left .accepted ≡ payloadsFrom (3 * slots) 1
+  pub delivered : final v workedEvents (initial l l′) h .right .delivered ≡ payloadsFrom (3 * slots) 1
+  pub sent : dataSent (final v workedEvents (initial l l′) h .left) ≡ 5 * slots - 4
   pub lost : final v workedEvents (initial l l′) h .left .lost ≡ 2
-  pub base : v (final v workedEvents (initial l l′) h .left .link) .base ≡ 5
+  pub base : v (final v workedEvents (initial l l′) h .left .link) .base ≡ (3 * slots) % modulus
   pub waits : TimerWaits v left workedEvents (initial l l′) h
+
+-- the payloads queue by queue; compared with the run as one list they would take too many steps
+three-queues : payloadsFrom slots 1 ++ payloadsFrom slots (slots + 1) ++ payloadsFrom slots (2 * slots + 1) ≡ payloadsFrom (3 * slots) 1
+three-queues = refl
 
 pub worked : {L : Type 0} (v : L → Model) (l l′ : L) → v l ≡ opened → v l′ ≡ opened → (h : History v workedEvents (initial l l′)) → Worked v l l′ h
 worked v l l′ e e′ h =
-    let f = followed v l l′ e e′ workedEvents h in
+    let f = followed simulates v l l′ e e′ workedEvents h in
     record {
-      accepted = f .left .accepted;
-      delivered = f .right .delivered;
+      accepted = f .left .accepted ∙ three-queues;
+      delivered = f .right .delivered ∙ three-queues;
       sent = f .left .sent;
       lost = f .left .lost;
       base = ap (λ (m : Model). m .base) (f .left .model);
-      waits = waited v l l′ e e′ workedEvents h left tt;
+      waits = waited simulates v l l′ e e′ workedEvents h left tt;
     }
 
--- ---- seven are sent and the first is lost; six are answered by 25, and seven sent again: the bound is met, so seven cannot be lowered
+-- ---- a full queue is sent and the first is lost; the others are answered by 25, and all are sent again: the bound is met, so it cannot be lowered
 abbrev pub tightEvents : List Event
 tightEvents =
     offered (payloadsFrom slots 1)
     ++ (at left (timer buffer) ∷ at left (loss 0) ∷ [])
-    ++ arrivals 6 right ++ arrivals 6 left
+    ++ arrivals (slots - 1) right ++ arrivals (slots - 1) left
     ++ (at left (timer buffer) ∷ [])
 
 pub record Tight {L : Type 0} (v : L → Model) (l l′ : L) (h : History v tightEvents (initial l l′)) : Type 0 where
@@ -112,10 +120,10 @@ pub record Tight {L : Type 0} (v : L → Model) (l l′ : L) (h : History v tigh
 
 pub tight : {L : Type 0} (v : L → Model) (l l′ : L) → v l ≡ opened → v l′ ≡ opened → (h : History v tightEvents (initial l l′)) → Tight v l l′ h
 tight v l l′ e e′ h =
-    let f = followed v l l′ e e′ tightEvents h in
+    let f = followed simulates v l l′ e e′ tightEvents h in
     record {
       bound = f .left .sent ∙ sym (λ i. length (f .left .accepted i) + slots * f .left .lost i);
-      waits = waited v l l′ e e′ tightEvents h left tt;
+      waits = waited simulates v l l′ e e′ tightEvents h left tt;
     }
 
 -- ---- both ends send. The left end's timer is called twice while the right end's DATA is on the line, and its premise holds: it asks for none of
@@ -146,7 +154,7 @@ pub record Duplex {L : Type 0} (v : L → Model) (l l′ : L) (h : History v dup
 
 pub duplex : {L : Type 0} (v : L → Model) (l l′ : L) → v l ≡ opened → v l′ ≡ opened → (h : History v duplexEvents (initial l l′)) → Duplex v l l′ h
 duplex v l l′ e e′ h =
-    let f = followed v l l′ e e′ duplexEvents h in
+    let f = followed simulates v l l′ e e′ duplexEvents h in
     record {
       leftToRight = f .right .delivered;
       rightToLeft = f .left .delivered;
@@ -154,6 +162,6 @@ duplex v l l′ e e′ h =
       leftLost = f .left .lost;
       rightSent = f .right .sent;
       rightLost = f .right .lost;
-      leftWaits = waited v l l′ e e′ duplexEvents h left tt;
-      rightWaits = waited v l l′ e e′ duplexEvents h right tt;
+      leftWaits = waited simulates v l l′ e e′ duplexEvents h left tt;
+      rightWaits = waited simulates v l l′ e e′ duplexEvents h right tt;
     }

@@ -15,7 +15,7 @@ use Rattle.dlc_packet.specs.declared.Kind.{Kind}
 use Rattle.dlc_packet.specs.declared.Kind.the-variants.{Invalid, Reset as ResetKind, ResetAck, Data as DataKind, Dack}
 use Rattle.dlc_table.specs.declared.State.{State}
 use Rattle.dlc_table.specs.declared.State.the-variants.{Idle, Reset, Data, Wait}
-use Rattle.dlc_table.specs.Answers.{done, badPacket, noEntry, otherNumber, replyTooSmall, badLink}
+use Rattle.dlc_table.specs.Answers.{done, noEntry, replyTooSmall, badLink}
 use Rattle.dlc_table.specs.Model.{Model}
 use Rattle.dlc_table.specs.Events.{Effect, refuse, startStep, resetAckStep, judged, dataStep, dackStep, timerStep, queued, isOpen, packetStep}
 use Rattle.dlc_table.specs.Events.{callRefusals, payloadRefusals, startOf, timerOf, payloadOf, arrivalOf}

@@ -32,9 +32,9 @@ through-distance b k h l = omega arith
 pub through-lawful : (w : ℕ) (once : Bool) → w < modulus → Lawful (through w once)
 through-lawful w once h = record { below = h; distance = through-distance }
 
--- three slots and the paper's DACK; fifteen, payloads sent at once, and the other DACK
-pub three : (es : List Event) → SlidingWindow (expecting 3 false) es
-three es = sliding-window (expecting 3 false) (expecting-lawful 3 false (omega arith)) es
+-- seven slots as in the paper; fifteen, payloads sent at once, and the other DACK
+pub seven : (es : List Event) → SlidingWindow (expecting 7 false) es
+seven es = sliding-window (expecting 7 false) (expecting-lawful 7 false (omega arith)) es
 
 pub fifteen : (es : List Event) → SlidingWindow (through 15 true) es
 fifteen es = sliding-window (through 15 true) (through-lawful 15 true (omega arith)) es

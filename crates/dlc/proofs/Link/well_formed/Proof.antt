@@ -1,7 +1,7 @@
 -- `Link::well_formed`: queue, numbers and state, in this order. Assumes nothing.
-use mathlib.Core.Path.{sym, _∙_}
+use mathlib.Core.Path.{_≡_, sym, _∙_}
 use Rattle.dlc.specs.View.{stateFits}
-use Rattle.dlc.proofs.Parts.{bad-queue, bad-base, bad-expected, by-state}
+use Rattle.dlc.proofs.Parts.{fits, bad-queue, bad-base, bad-expected, by-state}
 use Rattle.dlc.proofs.Link.well_formed.Statement.{statement}
 use Rattle.dlc.proofs.Link.well_formed.Tie as tie
 
@@ -29,9 +29,8 @@ returns-3 c =
     let l = tests .before .before .before .before .before .args .self in
     let counted = c .before .before .len .ensures in
     let rests = c .before .at-rest .ensures in
-    c .state-fits .ensures
-    ∙ (λ i. stateFits (l .state) (counted i) (rests i) (l .base) (l .expected))
-    ∙ sym (by-state l (sym (tests .before .before .before .well-formed .ensures) ∙ tests .before .before .if1 .taken) (tests .before .if2 .left) (tests .if3 .left))
+    let by-queue : c .state-fits .result ≡ fits l (l .state) = c .state-fits .ensures ∙ (λ i. stateFits (l .state) (counted i) (rests i) (l .base) (l .expected)) in
+    by-queue ∙ sym (by-state l (sym (tests .before .before .before .well-formed .ensures) ∙ tests .before .before .if1 .taken) (tests .before .if2 .left) (tests .if3 .left))
 
 returns-4 : tie.Need-returns-4
 returns-4 c = sym (bad-queue (c .before .before .before .args .self) (sym (c .before .well-formed .ensures) ∙ c .if1 .left))
