@@ -3,11 +3,12 @@ use Prim.Native.Nat.{_≤_, _<_}
 use mathlib.Core.Path.{_≡_, sym, ap, _∙_}
 use mathlib.Core.Bool.{Bool, true, _&&_}
 use lib.ListN.{length}
+use lib.Dec.{eqb}
 use borrow.Author.Tests.{lt-ltb}
 use Rattle.dlc_packet.specs.Numbers.{modulus}
 use Rattle.dlc_table.specs.Model.{Model, rebuilt}
 use Rattle.dlc_queue.specs.Queue.{slots, held, atRest}
-use Rattle.dlc_queue.proofs.Values.{queueOf, Short, payloads-queueOf, formed-queueOf}
+use Rattle.dlc_queue.proofs.Values.{queueOf, Short, held-queueOf, rest-queueOf, payloads-queueOf, formed-queueOf}
 use Rattle.dlc.specs.declared.Link.{Link}
 use Rattle.dlc.specs.View.{stateFits, wellFormed, seen, view}
 
@@ -21,16 +22,20 @@ pub record Fits (m : Model) : Type 0 where
   pub short : Short (m .queue)
   pub base : m .base < modulus
   pub expected : m .expected < modulus
-  pub state : stateFits (m .state) (held (queueOf (m .queue))) (atRest (queueOf (m .queue))) (m .base) (m .expected) ≡ true
+  pub state : stateFits (m .state) (length (m .queue)) (eqb (length (m .queue)) 0) (m .base) (m .expected) ≡ true
 
 module _ (m : Model) (f : Fits m) where
+  -- the state goes with the queue made of the payloads
+  state-linkOf : stateFits (m .state) (held (queueOf (m .queue))) (atRest (queueOf (m .queue))) (m .base) (m .expected) ≡ true
+  state-linkOf = (λ i. stateFits (m .state) (held-queueOf (m .queue) i) (rest-queueOf (m .queue) i) (m .base) (m .expected)) ∙ f .state
+
   formed-linkOf : wellFormed (linkOf m) ≡ true
   unfolding wellFormed
   formed-linkOf =
       λ i. formed-queueOf (m .queue) (f .short) (f .few) i
-      && (lt-ltb (m .base) modulus (f .base) i && (lt-ltb (m .expected) modulus (f .expected) i && f .state i))
+      && (lt-ltb (m .base) modulus (f .base) i && (lt-ltb (m .expected) modulus (f .expected) i && state-linkOf i))
 
   pub view-linkOf : view (linkOf m) ≡ m
   view-linkOf =
       ap (λ (ok : Bool). seen ok (linkOf m)) (formed-linkOf ∙ sym (f .ok))
-      ∙ (λ i. rebuilt m (m .state) (payloads-queueOf (m .queue) i) (m .base) (m .expected))
+      ∙ (λ i. rebuilt m (m .state) (payloads-queueOf (m .queue) (f .few) i) (m .base) (m .expected))

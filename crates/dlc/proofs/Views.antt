@@ -15,7 +15,7 @@ use Rattle.dlc_table.specs.Model.{rebuilt, inState, fresh}
 use Rattle.dlc_table.specs.Events.{isOpen, expectNext, without, stateOf, withPayload}
 use Rattle.dlc_queue.specs.declared.Queue.{Queue}
 use Rattle.dlc_queue.specs.Queue.{slots, payloads, held, formed, atRest, fresh as freshQueue, emptied, Pushed, Removed}
-use Rattle.dlc_queue.proofs.Slots.{empty-formed, emptied-formed, push-held, push-payloads, push-formed, remove-held, remove-payloads, remove-formed}
+use Rattle.dlc_queue.proofs.Slots.{fresh-formed, emptied-formed, push-held, push-payloads, push-formed, remove-held, remove-payloads, remove-formed}
 use Rattle.dlc.specs.declared.Link.{Link}
 use Rattle.dlc.specs.View.{wellFormed, stateFits, seen, view, relinked}
 use Rattle.dlc.proofs.Parts.{parts, whole, fits, open-fits}
@@ -27,7 +27,7 @@ freshWith q = record { state = Idle; queue = q; base = 0; expected = 0 }
 pub view-fresh : view (freshWith freshQueue) ≡ fresh
 view-fresh =
     let r : Link = freshWith freshQueue in
-    let w : wellFormed r ≡ true = whole r (record { queue = empty-formed freshQueue refl; base = omega arith; expected = omega arith; state = refl }) in
+    let w : wellFormed r ≡ true = whole r (record { queue = fresh-formed; base = omega arith; expected = omega arith; state = refl }) in
     λ i. seen (w i) r
 
 module _ (l : Link) (w : wellFormed l ≡ true) where

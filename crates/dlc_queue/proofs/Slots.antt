@@ -14,7 +14,7 @@ use borrow.Author.Tests.{le-leb, lt-leb, lt-ltb, le-ltb, leb-true, eqb-true}
 use Rattle.dlc_packet.specs.Packet.{maxPayload}
 use Rattle.dlc_queue.specs.declared.Payload.{Payload}
 use Rattle.dlc_queue.specs.declared.Queue.{Queue}
-use Rattle.dlc_queue.specs.Queue.{slots, octetsOf, used, payloads, held, allShort, formed, atRest, emptied, hasRoom, hasOldest, Pushed, Removed}
+use Rattle.dlc_queue.specs.Queue.{slots, octetsOf, used, payloads, held, allShort, formed, atRest, fresh, emptied, hasRoom, hasOldest, Pushed, Removed}
 use Rattle.dlc_queue.proofs.Lists.{map-drop, map-snoc}
 use Rattle.dlc_queue.proofs.Queue as Q
 use Rattle.dlc_queue.proofs.Shape.{slots-long}
@@ -52,8 +52,11 @@ module _ (q : Queue) where
       length-map (used q) octetsOf ∙ length-take-le (q .count) (q .slots) k
 
 -- a queue that holds nothing: a fresh one, one that was emptied, one of a link at rest
-pub empty-formed : (q : Queue) → held q ≡ 0 → formed q ≡ true
+empty-formed : (q : Queue) → held q ≡ 0 → formed q ≡ true
 empty-formed q e = is-formed q (rw e zero-le) (rw e)
+
+pub fresh-formed : formed fresh ≡ true
+fresh-formed = empty-formed fresh refl
 
 pub emptied-formed : (q : Queue) → formed (emptied q) ≡ true
 emptied-formed q = empty-formed (emptied q) refl

@@ -6,11 +6,12 @@ use mathlib.Core.Bool.{true, _&&_}
 use mathlib.Core.List.{List, [], _∷_, _++_, map}
 use lib.ListN.{length, replicate, length-map, length-append, length-replicate}
 use lib.Seq.{take-append-seam, take-at}
+use lib.Dec.{eqb}
 use borrow.Author.Tests.{le-leb}
 use Rattle.dlc_packet.specs.Packet.{maxPayload}
 use Rattle.dlc_queue.specs.declared.Payload.{Payload}
 use Rattle.dlc_queue.specs.declared.Queue.{Queue}
-use Rattle.dlc_queue.specs.Queue.{slots, octetsOf, used, payloads, allShort, formed}
+use Rattle.dlc_queue.specs.Queue.{slots, octetsOf, used, payloads, held, allShort, formed, atRest}
 use Rattle.dlc_queue.proofs.Shape.{Long}
 use Rattle.dlc_queue.proofs.Slots.{is-formed}
 
@@ -36,8 +37,16 @@ slots-short : (ps : List (List ℕ)) → Short ps → allShort (map slotOf ps) �
 slots-short [] s = refl
 slots-short (p ∷ ps) s = λ i. le-leb (length p) maxPayload (s .0) i && slots-short ps (s .1) i
 
-pub payloads-queueOf : (ps : List (List ℕ)) → payloads (queueOf ps) ≡ ps
-payloads-queueOf ps = ap (map octetsOf) (used-queueOf ps) ∙ octets-slots ps
+-- it holds them, as far as there are slots, and is at rest where there are none
+module _ (ps : List (List ℕ)) where
+  pub held-queueOf : held (queueOf ps) ≡ length ps
+  held-queueOf = refl
+
+  pub rest-queueOf : atRest (queueOf ps) ≡ eqb (length ps) 0
+  rest-queueOf = refl
+
+  pub payloads-queueOf : length ps ≤ slots → payloads (queueOf ps) ≡ ps
+  payloads-queueOf h = ap (map octetsOf) (used-queueOf ps) ∙ octets-slots ps
 
 module _ (ps : List (List ℕ)) (s : Short ps) (h : length ps ≤ slots) where
   pub formed-queueOf : formed (queueOf ps) ≡ true

@@ -1,4 +1,5 @@
--- No row of the step table changes whether a link is well formed, and so no list of events does; and 27 is answered only where a link is not. Assumes nothing.
+-- An event leaves its link rebuilt: what is no state, queue or number of it is as it was. So no event, and no list of events, changes whether a link
+-- is well formed; and 27 is answered only where it is not. Assumes nothing.
 use Prim.Native.Nat.{ℕ, _*_}
 use native.Mathlib.Omega.{arith}
 use mathlib.Core.Path.{_≡_, refl, ap, _∙_}
@@ -16,20 +17,20 @@ use Rattle.dlc_packet.specs.declared.Kind.the-variants.{Invalid, Reset as Reset
 use Rattle.dlc_table.specs.declared.State.{State}
 use Rattle.dlc_table.specs.declared.State.the-variants.{Idle, Reset, Data, Wait}
 use Rattle.dlc_table.specs.Answers.{done, noEntry, replyTooSmall, badLink}
-use Rattle.dlc_table.specs.Model.{Model}
+use Rattle.dlc_table.specs.Model.{Model, rebuilt}
 use Rattle.dlc_table.specs.Events.{Effect, refuse, startStep, resetAckStep, judged, dataStep, dackStep, timerStep, queued, isOpen, packetStep}
 use Rattle.dlc_table.specs.Events.{callRefusals, payloadRefusals, startOf, timerOf, payloadOf, arrivalOf}
 use Rattle.dlc_table.specs.Runs.{Event, start, timer, payload, arrival, effectOf, modelAfter}
 
 -- ---- row by row
 module _ (m : Model) where
-  -- an effect that leaves `ok` as it is
-  abbrev Keeps : Effect → Type 0
-  Keeps d = d .after .ok ≡ m .ok
+  -- an effect whose link is this one rebuilt
+  abbrev Rebuilds : Effect → Type 0
+  Rebuilds d = d .after ≡ rebuilt m (d .after .state) (d .after .queue) (d .after .base) (d .after .expected)
 
   -- and has another number than 27
   abbrev Fine : Effect → Type 0
-  Fine d = Keeps d × (d .code ≢ badLink)
+  Fine d = Rebuilds d × (d .code ≢ badLink)
 
   none : Fine (refuse m noEntry)
   none = (refl, λ e. omega (arith, e))
@@ -86,11 +87,11 @@ module _ (m : Model) where
       (λ _. either Fine (leb limit (length (m .queue))) (λ _. (refl, λ e. omega (arith, e))) (λ _. (refl, goes))))
 
 -- ---- behind the two refusals that all calls share
-keeps-shared : (m : Model) (a b : Bool) (ts : List Refusal) (d : Effect) → Keeps m (guarded ts (refuse m) d)
-    → Keeps m (guarded ((a, badLink) ∷ (b, replyTooSmall) ∷ ts) (refuse m) d)
-keeps-shared m true b ts d k = refl
-keeps-shared m false true ts d k = refl
-keeps-shared m false false ts d k = k
+rebuilds-shared : (m : Model) (a b : Bool) (ts : List Refusal) (d : Effect) → Rebuilds m (guarded ts (refuse m) d)
+    → Rebuilds m (guarded ((a, badLink) ∷ (b, replyTooSmall) ∷ ts) (refuse m) d)
+rebuilds-shared m true b ts d k = refl
+rebuilds-shared m false true ts d k = refl
+rebuilds-shared m false false ts d k = k
 
 other-shared : (m : Model) (a b : Bool) (ts : List Refusal) (d : Effect) → a ≡ false → guarded ts (refuse m) d .code ≢ badLink
     → guarded ((a, badLink) ∷ (b, replyTooSmall) ∷ ts) (refuse m) d .code ≢ badLink
@@ -100,18 +101,21 @@ other-shared m a false ts d e h = rw e h
 -- ---- an event, and a list of them
 module _ (limit : ℕ) where
   module _ (m : Model) (room : ℕ) (ts : List Refusal) (d : Effect) (row : Fine m (guarded ts (refuse m) d)) where
-    keeps : Keeps m (guarded (callRefusals limit m room ++ ts) (refuse m) d)
-    keeps = keeps-shared m (not (m .ok)) (ltb room (limit * maxPacket)) ts d (row .0)
+    rebuilds : Rebuilds m (guarded (callRefusals limit m room ++ ts) (refuse m) d)
+    rebuilds = rebuilds-shared m (not (m .ok)) (ltb room (limit * maxPacket)) ts d (row .0)
 
     other : m .ok ≡ true → guarded (callRefusals limit m room ++ ts) (refuse m) d .code ≢ badLink
     other ok = other-shared m (not (m .ok)) (ltb room (limit * maxPacket)) ts d (ap not ok) (row .1)
 
-  pub effect-keeps : (e : Event) (m : Model) → effectOf limit e m .after .ok ≡ m .ok
+  pub effect-rebuilds : (e : Event) (m : Model) → Rebuilds m (effectOf limit e m)
   unfolding startOf timerOf payloadOf arrivalOf
-  effect-keeps (start before) m = keeps m (length before) [] (startStep m (m .state)) (start-row m (m .state))
-  effect-keeps (timer before) m = keeps m (length before) [] (timerStep m (m .state)) (timer-row m (m .state))
-  effect-keeps (payload p before) m = keeps m (length before) (payloadRefusals limit m p) (queued m p) (payload-row m limit p)
-  effect-keeps (arrival packet before) m = keeps m (length before) [] (packetStep m (kindOf packet)) (packet-row m (kindOf packet))
+  effect-rebuilds (start before) m = rebuilds m (length before) [] (startStep m (m .state)) (start-row m (m .state))
+  effect-rebuilds (timer before) m = rebuilds m (length before) [] (timerStep m (m .state)) (timer-row m (m .state))
+  effect-rebuilds (payload p before) m = rebuilds m (length before) (payloadRefusals limit m p) (queued m p) (payload-row m limit p)
+  effect-rebuilds (arrival packet before) m = rebuilds m (length before) [] (packetStep m (kindOf packet)) (packet-row m (kindOf packet))
+
+  pub effect-keeps : (e : Event) (m : Model) → effectOf limit e m .after .ok ≡ m .ok
+  effect-keeps e m = ap (λ (m : Model). m .ok) (effect-rebuilds e m)
 
   pub never-badLink : (e : Event) (m : Model) → m .ok ≡ true → effectOf limit e m .code ≢ badLink
   unfolding startOf timerOf payloadOf arrivalOf
