@@ -1,12 +1,15 @@
 -- A link for every model that one can hold, its free slots all 0: for whoever has to show that there are links. Assumes nothing.
-use Prim.Native.Nat.{_≤_, _<_}
-use mathlib.Core.Path.{_≡_, sym, ap, _∙_}
+use Prim.Native.Nat.{ℕ, _≤_, _<_}
+use native.Mathlib.Omega.{arith}
+use mathlib.Core.Path.{_≡_, refl, sym, ap, _∙_}
 use mathlib.Core.Bool.{Bool, true, _&&_}
+use mathlib.Core.List.{List}
 use lib.ListN.{length}
 use lib.Dec.{eqb}
 use borrow.Author.Tests.{lt-ltb}
 use Rattle.dlc_packet.specs.Numbers.{modulus}
-use Rattle.dlc_table.specs.Model.{Model, rebuilt}
+use Rattle.dlc_table.specs.declared.State.{State}
+use Rattle.dlc_table.specs.Model.{Model, rebuilt, fresh}
 use Rattle.dlc_queue.specs.Queue.{slots, held, atRest}
 use Rattle.dlc_queue.proofs.Values.{queueOf, Short, held-queueOf, rest-queueOf, payloads-queueOf, formed-queueOf}
 use Rattle.dlc.specs.declared.Link.{Link}
@@ -39,3 +42,12 @@ module _ (m : Model) (f : Fits m) where
   view-linkOf =
       ap (λ (ok : Bool). seen ok (linkOf m)) (formed-linkOf ∙ sym (f .ok))
       ∙ (λ i. rebuilt m (m .state) (payloads-queueOf (m .queue) (f .few) i) (m .base) (m .expected))
+
+-- a fresh link fits, and whatever is made of a link that fits does where its parts do
+pub fits-fresh : Fits fresh
+fits-fresh = record { ok = refl; few = omega arith; short = tt; base = omega arith; expected = omega arith; state = refl }
+
+pub fits-rebuilt : (m : Model) → Fits m → (s : State) (q : List (List ℕ)) (b e : ℕ) → length q ≤ slots → Short q → b < modulus → e < modulus
+    → stateFits s (length q) (eqb (length q) 0) b e ≡ true
+    → Fits (rebuilt m s q b e)
+fits-rebuilt m f s q b e hf hs hb he h = record { ok = f .ok; few = hf; short = hs; base = hb; expected = he; state = h }

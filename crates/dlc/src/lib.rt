@@ -8,10 +8,9 @@ ghost use mathlib.Core.List.{[], _∷_};
 ghost use Prim.Native.Nat.{_+_, _≤_, _<_};
 ghost use lib.ListN.{length};
 ghost use lib.Dec.{eqb};
-ghost use Rattle.dlc_packet.specs.Numbers.{distance};
 ghost use Rattle.dlc_packet.specs.Packet.{maxPayload};
 ghost use Rattle.dlc_table.specs.Model.{fresh};
-ghost use Rattle.dlc_table.specs.Events.{isOpen, effect, cleared, resetAckStep, judged, dataStep, without, acknowledged, dackStep, timerStep, withPayload, queued};
+ghost use Rattle.dlc_table.specs.Events.{isOpen, effect, cleared, resetAckStep, judged, dataStep, without, distanceOf, acknowledged, dackStep, timerStep, withPayload, queued};
 ghost use Rattle.dlc_queue.specs.Queue.{slots, replySize, held};
 ghost use Rattle.dlc.specs.View.{wellFormed, view, relinked};
 ghost use Rattle.dlc.specs.Calls.{given, Returns, Meets, OneSent};
@@ -152,7 +151,7 @@ impl Link {
     // DACK x while payloads wait: remove.
     fn acknowledge(mut self, x: u8) -> Outcome
         requires { ⌜ (wellFormed self ≡ true) × (self .state ≡ State.Wait) ⌝ }
-        ensures { λ r. ⌜ Returns view (acknowledged (view self) (distance (self .base) x)) self (r .link) (r .answer) ⌝ }
+        ensures { λ r. ⌜ Returns view (acknowledged (view self) (distanceOf (view self) x)) self (r .link) (r .answer) ⌝ }
     {
         let q = self.queue;
         let n = dlc_packet::dack_distance(self.base, x);

@@ -14,13 +14,13 @@ use Rattle.dlc_packet.proofs.Numbers.{distance-dackNumber}
 use Rattle.dlc_table.specs.declared.State.the-variants.{Reset}
 use Rattle.dlc_table.specs.Answers.{done, payloadTooLong, notOpen, queueFull, noEntry, otherNumber, replyTooSmall}
 use Rattle.dlc_table.specs.Model.{Model, rebuilt, inState, fresh, opened}
-use Rattle.dlc_table.specs.Events.{Effect, effect, refuse, cleared, expectNext, dackOf, judged, dataStep, stateOf, without, dackStep, timerStep, startStep}
+use Rattle.dlc_table.specs.Events.{Effect, effect, refuse, cleared, expectNext, dackOf, judged, dataStep, stateOf, without, distanceOf, dackStep, timerStep, startStep}
 use Rattle.dlc_table.specs.Events.{queued, isOpen, packetStep, startOf, timerOf, payloadOf, arrivalOf}
 use Rattle.dlc_queue.proofs.Values.{Short as ShortQueue}
 use Rattle.dlc.specs.declared.Link.{Link}
-use Rattle.dlc.specs.Limits.{modulus, advance, slots, maxPayload, replySize, distance, resetPacket, resetAckPacket, dataPackets}
+use Rattle.dlc.specs.Limits.{modulus, advance, slots, maxPayload, replySize, resetPacket, resetAckPacket, dataPackets}
 use Rattle.dlc.specs.View.{stateFits, view}
-use Rattle.dlc.proofs.Values.{linkOf, view-linkOf}
+use Rattle.dlc.proofs.Values.{linkOf, view-linkOf, fits-fresh as fresh-fits, fits-rebuilt}
 use Rattle.dlc_run.specs.Replies.{Octets, Packets}
 use Rattle.window.specs.Packets.{Packet, dataPdu, dackPdu, numbered}
 use Rattle.window.specs.Ends.{Lawful, End as Peer, delivering, freed, lostOne, acknowledges, withSender, firstSent, accept, sendAll, takeData}
@@ -52,14 +52,9 @@ short-queue (p ∷ q) s = (s .0, short-queue q (s .1))
 value : (a : Peer) → Fits a → (l : Link) × (view l ≡ modelOf a)
 value a f = (
   linkOf (modelOf a),
-  view-linkOf (modelOf a) (record {
-    ok = refl;
-    few = f .few;
-    short = short-queue (a .sender .queue) (f .short);
-    base = f .base;
-    expected = f .expected;
-    state = state-fits (a .sender .queue) (a .sender .base) (a .receiver .expected);
-  }),
+  view-linkOf (modelOf a) (fits-rebuilt fresh fresh-fits _ (a .sender .queue) (a .sender .base) (a .receiver .expected)
+      (f .few) (short-queue (a .sender .queue) (f .short)) (f .base) (f .expected)
+      (state-fits (a .sender .queue) (a .sender .base) (a .receiver .expected))),
 )
 
 -- ---- start: 26 or 24
@@ -200,15 +195,15 @@ none-queued (suc d) = rw (leb·suc-zero d) (right-false (leb 1 (suc d)))
     right-false false = refl
 
 dack-open : (m : Model) (q : Packets) (x : ℕ) → m .queue ≡ q
-    → dackStep m (stateOf q) x ≡ cond (acknowledges (distance (m .base) x) q) (effect done [] (without m (distance (m .base) x))) (refuse m noEntry)
-dack-open m [] x e = rw (none-queued (distance (m .base) x))
+    → dackStep m (stateOf q) x ≡ cond (acknowledges (distanceOf m x) q) (effect done [] (without m (distanceOf m x))) (refuse m noEntry)
+dack-open m [] x e = rw (none-queued (distanceOf m x))
 dack-open m (p ∷ q) x e =
-    let d : ℕ = distance (m .base) x in
+    let d : ℕ = distanceOf m x in
     ap (λ (t : Packets). cond (ltb 0 d && leb d (length t)) (effect done [] (without m d)) (refuse m noEntry)) e
 
 arrivalOf-dack : (a : Peer) (x : ℕ) (n : ℕ) → x < modulus
     → arrivalOf slots (modelOf a) (encode (dackPdu x)) n
-    ≡ dackEffect (ltb n replySize) (acknowledges (distance (a .sender .base) x) (a .sender .queue)) (modelOf a) (distance (a .sender .base) x)
+    ≡ dackEffect (ltb n replySize) (acknowledges (rules .distance (a .sender .base) x) (a .sender .queue)) (modelOf a) (rules .distance (a .sender .base) x)
 unfolding arrivalOf
 arrivalOf-dack a x n h =
     ap (cond (ltb n replySize) (refuse (modelOf a) replyTooSmall)) (ap (packetStep (modelOf a)) (kindOf-dack x h) ∙ dack-open (modelOf a) (a .sender .queue) x refl)
@@ -229,7 +224,7 @@ arrival-becomes a f (dataPdu x p) h before =
     subst (λ (d : Effect). Arrival modelOf (dataPdu x p) d a (reached rules (not (tooShort before)) (dataPdu x p) a)) (sym (arrivalOf-data a x p (length before) h))
     (data-becomes a f x p (tooShort before) (eqb x (a .receiver .expected)))
 arrival-becomes a f (dackPdu x) h before =
-    let d = distance (a .sender .base) x in
+    let d = rules .distance (a .sender .base) x in
     subst (λ (d : Effect). Arrival modelOf (dackPdu x) d a (reached rules (not (tooShort before)) (dackPdu x) a)) (sym (arrivalOf-dack a x (length before) h))
     (dack-becomes a f x d (tooShort before) (acknowledges d (a .sender .queue)))
 
@@ -243,10 +238,10 @@ refused-short a (dataPdu x p) h before =
     by-case false true = refl
     by-case false false = refl
 refused-short a (dackPdu x) h before =
-    let d = distance (a .sender .base) x in
+    let d = rules .distance (a .sender .base) x in
     ap (λ (d : Effect). eqb (d .code) replyTooSmall) (arrivalOf-dack a x (length before) h) ∙ by-case (tooShort before) (acknowledges d (a .sender .queue))
   where
-    by-case : (short some : Bool) → eqb (dackEffect short some (modelOf a) (distance (a .sender .base) x) .code) replyTooSmall ≡ short
+    by-case : (short some : Bool) → eqb (dackEffect short some (modelOf a) (rules .distance (a .sender .base) x) .code) replyTooSmall ≡ short
     by-case true some = refl
     by-case false true = refl
     by-case false false = refl

@@ -18,7 +18,7 @@ use Rattle.dlc.specs.Limits.{slots, resetPacket, resetAckPacket}
 use Rattle.dlc.specs.View.{stateFits}
 use Rattle.dlc_answer.specs.Delivered.{deliveredPart}
 use Rattle.dlc.specs.Calls.{Meets, StartCall, TimerCall}
-use Rattle.dlc.proofs.Values.{linkOf, view-linkOf}
+use Rattle.dlc.proofs.Values.{linkOf, view-linkOf, fits-fresh as fresh-fits, fits-rebuilt}
 use Rattle.dlc_run.proofs.Copied.{copiedBy-packets}
 use Rattle.dlc_run.specs.Replies.{Octets, Packets, isData, isDack, Reply, copiedBy}
 use Rattle.window.specs.Sides.{left, right}
@@ -103,7 +103,7 @@ module _ {L : Type 0} {v : L → Model} {w : World L} {m m′ : Model} {ks : Pac
 empty-value : {L : Type 0} {v : L → Model} → Covers v → (s : State) → stateFits s 0 true 0 0 ≡ true → (l : L) × (v l ≡ inState s fresh)
 empty-value covers s h =
     let l = covers (linkOf (inState s fresh)) in
-    (l .0, l .1 ∙ view-linkOf (inState s fresh) (record { ok = refl; few = omega arith; short = tt; base = omega arith; expected = omega arith; state = h }))
+    (l .0, l .1 ∙ view-linkOf (inState s fresh) (fits-rebuilt fresh fresh-fits s [] 0 0 (omega arith) tt (omega arith) (omega arith) h))
 
 -- a call whose effect is known may give back a link of the model after it
 reply-known : {L : Type 0} {v : L → Model} (d : Effect) {d′ : Effect} → d ≡ d′ → (l l″ : L) (before : Octets) → v l″ ≡ d′ .after → refuses (d′ .code) ≡ false

@@ -7,12 +7,11 @@ use mathlib.Core.List.{[], _∷_}
 use lib.ListN.{length}
 use lib.Dec.{ltb, leb}
 use borrow.Author.Tests.{lt-ltb, le-leb, lt-leb, eq-eqb, ne-eqb}
-use Rattle.dlc_packet.specs.Numbers.{distance}
 use Rattle.dlc_table.specs.declared.State.{State}
 use Rattle.dlc_table.specs.declared.State.the-variants.{Idle, Reset, Data, Wait}
 use Rattle.dlc_table.specs.Answers.{done, noEntry, otherNumber}
 use Rattle.dlc_table.specs.Model.{Model}
-use Rattle.dlc_table.specs.Events.{Effect, effect, refuse, expectNext, dackOf, judged, dataStep, isOpen, without, acknowledged, resetAckStep, dackStep}
+use Rattle.dlc_table.specs.Events.{Effect, effect, refuse, expectNext, dackOf, judged, dataStep, isOpen, without, distanceOf, acknowledged, resetAckStep, dackStep}
 
 -- DATA with the expected number, and with another
 abbrev pub taken : Model → Effect
@@ -69,4 +68,4 @@ pub dack-silent : (m : Model) (s : State) (x : ℕ) → dackStep m s x .packets 
 dack-silent m Idle x = refl
 dack-silent m Reset x = refl
 dack-silent m Data x = refl
-dack-silent m Wait x = acknowledged-silent m (distance (m .base) x)
+dack-silent m Wait x = acknowledged-silent m (distanceOf m x)

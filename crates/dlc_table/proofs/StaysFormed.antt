@@ -10,7 +10,6 @@ use lib.ListN.{length}
 use lib.Dec.{leb, ltb, eqb}
 use Rattle.common.specs.Refusals.{Refusal, guarded}
 use Rattle.common.proofs.Bools.{either}
-use Rattle.dlc_packet.specs.Numbers.{distance}
 use Rattle.dlc_packet.specs.Packet.{maxPayload, maxPacket, kindOf}
 use Rattle.dlc_packet.specs.declared.Kind.{Kind}
 use Rattle.dlc_packet.specs.declared.Kind.the-variants.{Invalid, Reset as ResetKind, ResetAck, Data as DataKind, Dack}
@@ -18,7 +17,7 @@ use Rattle.dlc_table.specs.declared.State.{State}
 use Rattle.dlc_table.specs.declared.State.the-variants.{Idle, Reset, Data, Wait}
 use Rattle.dlc_table.specs.Answers.{done, noEntry, replyTooSmall, badLink}
 use Rattle.dlc_table.specs.Model.{Model, rebuilt}
-use Rattle.dlc_table.specs.Events.{Effect, refuse, startStep, resetAckStep, judged, dataStep, dackStep, timerStep, queued, isOpen, packetStep}
+use Rattle.dlc_table.specs.Events.{Effect, refuse, startStep, resetAckStep, judged, dataStep, distanceOf, dackStep, timerStep, queued, isOpen, packetStep}
 use Rattle.dlc_table.specs.Events.{callRefusals, payloadRefusals, startOf, timerOf, payloadOf, arrivalOf}
 use Rattle.dlc_table.specs.Runs.{Event, start, timer, payload, arrival, effectOf, modelAfter}
 
@@ -70,7 +69,7 @@ module _ (m : Model) where
   dack-row Reset x = none
   dack-row Data x = none
   dack-row Wait x =
-      let n : ℕ = distance (m .base) x in
+      let n : ℕ = distanceOf m x in
       either Fine (ltb 0 n && leb n (length (m .queue))) (λ _. (refl, goes)) (λ _. none)
 
   packet-row : (k : Kind) → Fine (packetStep m k)

@@ -93,6 +93,10 @@ without m n =
     let left = drop n (m .queue) in
     rebuilt m (stateOf left) left (advance (m .base) n) (m .expected)
 
+-- the distance of a DACK x
+abbrev pub distanceOf : Model → ℕ → ℕ
+distanceOf m x = distance (m .base) x
+
 -- remove: "distance 1 up to the queue's length removes that many oldest; another distance answers 24"
 abbrev pub acknowledged : Model → ℕ → Effect
 acknowledged m n = cond (ltb 0 n && leb n (length (m .queue))) (effect done [] (without m n)) (refuse m noEntry)
@@ -101,7 +105,7 @@ abbrev pub dackStep : Model → State → ℕ → Effect
 dackStep m Idle x = refuse m noEntry
 dackStep m Reset x = refuse m noEntry
 dackStep m Data x = refuse m noEntry
-dackStep m Wait x = acknowledged m (distance (m .base) x)
+dackStep m Wait x = acknowledged m (distanceOf m x)
 
 -- ---- timer
 -- send all: "every queued payload as DATA, oldest first, none removed"

@@ -3,10 +3,9 @@ use Prim.Native.Nat.{ℕ, _<_, _≤_}
 use native.Mathlib.Nat.{pos-of-ne-zero}
 use mathlib.Core.Path.{_≡_, sym, ap, _∙_}
 use lib.ListN.{length}
-use Rattle.dlc_packet.specs.Numbers.{distance}
 use Rattle.dlc_table.specs.Answers.{noEntry}
 use Rattle.dlc.specs.View.{view}
-use Rattle.dlc_table.specs.Events.{without}
+use Rattle.dlc_table.specs.Events.{without, distanceOf}
 use Rattle.dlc.proofs.Parts.{length-queue}
 use Rattle.dlc_table.proofs.Rows.{acknowledged-none, acknowledged-over, acknowledged-some}
 use Rattle.dlc.proofs.Outcomes.{refused-returns, done-returns}
@@ -23,7 +22,7 @@ silent-requires c κs = tt
 returns : tie.Need-returns
 returns c =
     let l = c .before .before .before .before .args .self in
-    refused-returns _ l noEntry _ (acknowledged-none (view l) (distance (l .base) (c .before .before .before .before .args .x)) (sym (c .before .before .dack-distance .ensures) ∙ c .before .if1 .taken)) (c .silent .ensures)
+    refused-returns _ l noEntry _ (acknowledged-none (view l) (distanceOf (view l) (c .before .before .before .before .args .x)) (sym (c .before .before .dack-distance .ensures) ∙ c .before .if1 .taken)) (c .silent .ensures)
 
 len-requires : tie.Need-len-requires
 len-requires c κs = tt
@@ -32,7 +31,7 @@ cast-if2 : tie.Need-cast-if2
 cast-if2 c = search needs
 
 -- the distance, and how many payloads there are, as the table has them; behind the call of `len`
-steps : (c : tie.After-len) → c .before .before .dack-distance .result ≡ distance (c .before .before .before .before .args .self .base) (c .before .before .before .before .args .x)
+steps : (c : tie.After-len) → c .before .before .dack-distance .result ≡ distanceOf (view (c .before .before .before .before .args .self)) (c .before .before .before .before .args .x)
 steps c = c .before .before .dack-distance .ensures
 
 queued : (c : tie.After-len) → length (view (c .before .before .before .before .args .self) .queue) ≡ c .len .result
@@ -48,8 +47,8 @@ returns-2 c =
     let b = c .before .before in
     let s = b .before .before .before .before in
     let l = s .args .self in
-    let over : length (view l .queue) < distance (l .base) (s .args .x) = rw (queued b, sym (steps b)) (c .before .if2 .taken) in
-    refused-returns _ l noEntry _ (acknowledged-over (view l) (distance (l .base) (s .args .x)) over) (c .silent2 .ensures)
+    let over : length (view l .queue) < distanceOf (view l) (s .args .x) = rw (queued b, sym (steps b)) (c .before .if2 .taken) in
+    refused-returns _ l noEntry _ (acknowledged-over (view l) (distanceOf (view l) (s .args .x)) over) (c .silent2 .ensures)
 
 without-requires : tie.Need-without-requires
 without-requires c κs =
@@ -64,7 +63,7 @@ returns-3 c =
     let b = c .before .before .before in
     let s = b .before .before .before .before in
     let l = s .args .self in
-    let n : ℕ = distance (l .base) (s .args .x) in
+    let n : ℕ = distanceOf (view l) (s .args .x) in
     let some : 0 < n = rw (sym (steps b)) (pos-of-ne-zero (b .before .if1 .left)) in
     let all : n ≤ length (view l .queue) = rw (queued b, sym (steps b)) (c .before .before .if2 .left) in
     done-returns _ l (c .before .without .result) (without (view l) n) _ (acknowledged-some (view l) n some all)

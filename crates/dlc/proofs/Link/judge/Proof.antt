@@ -1,9 +1,11 @@
 -- `Link::judge`: the expected number, or another. Assumes nothing.
-use Prim.Native.Nat.{ℕ}
+use Prim.Native.Nat.{ℕ, _<_}
 use mathlib.Core.Path.{_≡_, refl, sym, ap, _∙_}
 use mathlib.Core.List.{List, [], _∷_}
-use Rattle.dlc_packet.specs.Numbers.{advance, dackNumber}
+use Rattle.dlc_packet.specs.Numbers.{modulus, advance, dackNumber}
+use Rattle.dlc_packet.proofs.Numbers.{dackNumber-below}
 use Rattle.dlc_packet.specs.Packet.{dackPacket}
+use Rattle.dlc_table.specs.Events.{dackOf, expectNext}
 use Rattle.dlc.specs.View.{view, relinked}
 use Rattle.dlc.proofs.Parts.{parts}
 use Rattle.dlc.proofs.Views.{view-expectNext}
@@ -21,7 +23,9 @@ dack-number-requires : tie.Need-dack-number-requires
 dack-number-requires c κs = tt
 
 add-dack : tie.Need-add-dack
-add-dack c = omega (arith, c .dack-number .ensures, c .before .advanced .ensures)
+add-dack c =
+    let below : c .before .advanced .result < modulus = omega (arith, c .before .advanced .ensures) in
+    omega (arith, c .dack-number .ensures, dackNumber-below _ below)
 
 send-control-requires : tie.Need-send-control-requires
 send-control-requires c κs = omega (arith, c .before .before .before .before .before .pre .1 .1)
@@ -30,7 +34,9 @@ dack-number-requires-2 : tie.Need-dack-number-requires-2
 dack-number-requires-2 c κs = tt
 
 add-dack-2 : tie.Need-add-dack-2
-add-dack-2 c = omega (arith, c .dack-number2 .ensures, parts (c .before .before .before .args .self) (c .before .before .before .pre .0) .expected)
+add-dack-2 c =
+    let s = c .before .before .before in
+    omega (arith, c .dack-number2 .ensures, dackNumber-below _ (parts (s .args .self) (s .pre .0) .expected))
 
 send-control-requires-2 : tie.Need-send-control-requires-2
 send-control-requires-2 c κs = omega (arith, c .before .before .before .before .pre .1 .1)
@@ -42,7 +48,7 @@ returns : tie.Need-returns
 returns c =
     let l = c .before .before .before .before .before .before .before .before .args .self in
     let e : c .before .before .before .before .before .advanced .result ≡ advance (l .expected) 1 = c .before .before .before .before .before .advanced .ensures in
-    let d : dackPacket (c .before .before .before .before .dack-number .result) ≡ dackPacket (dackNumber (advance (l .expected) 1)) = ap dackPacket (c .before .before .before .before .dack-number .ensures ∙ e) in
+    let d : dackPacket (c .before .before .before .before .dack-number .result) ≡ dackOf (expectNext (view l)) = ap dackPacket (c .before .before .before .before .dack-number .ensures ∙ ap dackNumber e) in
     meets-by (judged-same (view l) (c .before .before .before .before .before .before .before .before .args .x) (c .before .before .before .before .before .before .if1 .taken))
     (one-meets (taken (view l)) l (relinked l (l .state) (l .queue) (l .base) (c .before .before .before .before .before .advanced .result)) (dackPacket (c .before .before .before .before .dack-number .result)) _ _ _ refl
     (ap (λ (p : List ℕ). p ∷ []) (sym d)) (view-expectNext l (c .before .before .before .before .before .before .before .before .pre .0) (c .before .before .before .before .before .advanced .result) (c .before .before .before .before .before .before .before .before .pre .1 .0) e) (c .before .before .send-control .ensures))
@@ -53,7 +59,7 @@ same-length-2 c = search needs
 returns-2 : tie.Need-returns-2
 returns-2 c =
     let l = c .before .before .before .before .before .before .before .args .self in
-    let d : dackPacket (c .before .before .before .before .dack-number2 .result) ≡ dackPacket (dackNumber (l .expected)) = ap dackPacket (c .before .before .before .before .dack-number2 .ensures) in
+    let d : dackPacket (c .before .before .before .before .dack-number2 .result) ≡ dackOf (view l) = ap dackPacket (c .before .before .before .before .dack-number2 .ensures) in
     meets-by (judged-other (view l) (c .before .before .before .before .before .before .before .args .x) (c .before .before .before .before .before .if1 .left))
     (one-meets (other (view l)) l l (dackPacket (c .before .before .before .before .dack-number2 .result)) _ _ _ refl
     (ap (λ (p : List ℕ). p ∷ []) (sym d)) refl (c .before .before .send-control2 .ensures))
