@@ -10,7 +10,7 @@ MANDIR = $(PREFIX)/share/man
 
 ARCHIVE = target/libhasfandur.a
 # its members, each a crate that is compiled by itself: a loop that framings share is then made for each of them
-MEMBERS = hasfandur hasfandur_kiss hasfandur_conversion hasfandur_sheet
+MEMBERS = hasfandur hasfandur_dlc hasfandur_kiss hasfandur_conversion hasfandur_sheet
 # each has a page docs/man/NAME.1
 PROGRAMS = list_level0 list_level1 list_kiss qaft_to_kiss qaft_to_kiss_level1 kiss_to_qaft kiss_to_qaft_level1 line_sheet
 BUILT = $(PROGRAMS:%=target/bin/%)

@@ -4,7 +4,7 @@ import re
 from crates import Wrong, constant, source, value
 
 # the crates whose functions make the archive
-ARCHIVE = ["hasfandur", "hasfandur_kiss", "hasfandur_conversion", "hasfandur_sheet"]
+ARCHIVE = ["hasfandur", "hasfandur_dlc", "hasfandur_kiss", "hasfandur_conversion", "hasfandur_sheet"]
 
 # structs of the header, and of the crates; a field that has another name in the crate
 STRUCTS = [

@@ -36,6 +36,6 @@ seen ok l = record { ok = ok; state = l .state; queue = payloads (l .queue); bas
 abbrev pub view : Link → Model
 view l = seen (wellFormed l) l
 
--- the link with another state, queue and numbers; whatever else it has goes along. Nothing else makes a link of a link
+-- the link with another state, queue and numbers; whatever else it has goes along (nothing today). Every link that an event makes of a link is one
 abbrev pub relinked : Link → State → Queue → ℕ → ℕ → Link
 relinked l s q b e = record { state = s; queue = q; base = b; expected = e }

@@ -6,9 +6,6 @@ ghost use Rattle.qaft_write.specs.Write.{writeFrame};
 ghost use Rattle.qaft_read.specs.State.{fresh};
 ghost use Rattle.qaft_read.specs.Read.{read};
 ghost use Rattle.qaft_plain.specs.Plain.{readerOf, plainOf, answerOf};
-ghost use Rattle.dlc_table.specs.Model.{fresh as freshLink};
-ghost use Rattle.dlc.specs.Calls.{StartCall, TimerCall, PayloadCall, ArrivalCall};
-ghost use Rattle.dlc_plain.specs.Plain.{view};
 ghost use Rattle.sums.specs.Sum.{sumFrom, nextStationSum, headerSum};
 ghost use Rattle.fcs.specs.Fcs.{checkSequence};
 ghost use Rattle.afp.specs.Reading.{readOf};
@@ -34,7 +31,7 @@ pub extern "C" fn hasfandur_qaft_write(
     qaft_write::write_frame(level, at_flag, data, out)
 }
 
-// The reader and the link cross in plain numbers: any number may come.
+// The reader crosses in plain numbers: any number may come.
 #[no_mangle]
 pub extern "C" fn hasfandur_qaft_fresh(level: u8) -> qaft_plain::PlainReader
     ensures { λ r. ⌜ r ≡ plainOf (fresh level) ⌝ }
@@ -52,56 +49,6 @@ pub extern "C" fn hasfandur_qaft_read(
     ensures { λ _. ⌜ now (buffer .exit) ≡ read (readerOf reader) (now (chunk .entry)) (now (buffer .entry)) .buffer ⌝ }
 {
     reader.read(chunk, buffer)
-}
-
-// Each event takes a link and gives it back with an answer.
-#[no_mangle]
-pub extern "C" fn hasfandur_dlc_fresh() -> dlc_plain::PlainLink
-    ensures { λ r. ⌜ view r ≡ freshLink ⌝ }
-{
-    dlc_plain::PlainLink::new()
-}
-
-#[no_mangle]
-pub extern "C" fn hasfandur_dlc_start(
-    link: dlc_plain::PlainLink,
-    reply: &mut [u8],
-) -> dlc_plain::PlainOutcome
-    ensures { λ r. ⌜ StartCall view link (now (reply .entry)) (now (reply .exit)) (r .link) (r .answer) ⌝ }
-{
-    link.start(reply)
-}
-
-#[no_mangle]
-pub extern "C" fn hasfandur_dlc_timer(
-    link: dlc_plain::PlainLink,
-    reply: &mut [u8],
-) -> dlc_plain::PlainOutcome
-    ensures { λ r. ⌜ TimerCall view link (now (reply .entry)) (now (reply .exit)) (r .link) (r .answer) ⌝ }
-{
-    link.timer(reply)
-}
-
-#[no_mangle]
-pub extern "C" fn hasfandur_dlc_payload(
-    link: dlc_plain::PlainLink,
-    payload: &[u8],
-    reply: &mut [u8],
-) -> dlc_plain::PlainOutcome
-    ensures { λ r. ⌜ PayloadCall view link (now (payload .entry)) (now (reply .entry)) (now (reply .exit)) (r .link) (r .answer) ⌝ }
-{
-    link.payload(payload, reply)
-}
-
-#[no_mangle]
-pub extern "C" fn hasfandur_dlc_arrival(
-    link: dlc_plain::PlainLink,
-    packet: &[u8],
-    reply: &mut [u8],
-) -> dlc_plain::PlainOutcome
-    ensures { λ r. ⌜ ArrivalCall view link (now (packet .entry)) (now (reply .entry)) (now (reply .exit)) (r .link) (r .answer) ⌝ }
-{
-    link.arrival(packet, reply)
 }
 
 #[no_mangle]
