@@ -1,19 +1,20 @@
 -- A well-formed link, part by part. Assumes nothing.
-use Prim.Native.Nat.{ℕ, _<_, _≤_}
-use mathlib.Core.Path.{_≡_}
+use Prim.Native.Nat.{ℕ, suc, _<_, _≤_}
+use native.Mathlib.Omega.{arith}
+use mathlib.Core.Path.{_≡_, refl}
 use mathlib.Core.Bool.{Bool, true, false, _&&_, false≢true}
-use mathlib.Core.List.{List}
+use mathlib.Core.List.{List, [], _∷_}
 use lib.ListN.{length}
 use lib.Dec.{ltb, eqb}
 use mir.Val.{Val}
 use denote.Laws.{Is}
 use borrow.Author.Tests.{lt-ltb, le-ltb, ltb-true, eq-eqb}
+use Rattle.common.proofs.Bools.{and-both}
 use Rattle.dlc_packet.specs.Numbers.{modulus}
 use Rattle.dlc_table.specs.declared.State.{State}
 use Rattle.dlc_table.specs.declared.State.the-variants.{Idle, Reset, Data, Wait}
-use Rattle.dlc_table.specs.Events.{isOpen}
+use Rattle.dlc_table.specs.Events.{isOpen, stateOf}
 use Rattle.dlc_queue.specs.Queue.{payloads, held, atRest, formed}
-use Rattle.dlc_queue.proofs.Short.{both}
 use Rattle.dlc_queue.proofs.Slots.{length-owned, rest-held}
 use Rattle.dlc.specs.declared.Link.{Link}
 use Rattle.dlc.specs.View.{stateFits, wellFormed}
@@ -33,9 +34,9 @@ pub parts : (l : Link) → wellFormed l ≡ true → Parts l
 unfolding wellFormed
 parts l e =
     let f : Bool = fits l (l .state) in
-    let a = both (formed (l .queue)) (ltb (l .base) modulus && (ltb (l .expected) modulus && f)) e in
-    let b = both (ltb (l .base) modulus) (ltb (l .expected) modulus && f) (a .1) in
-    let c = both (ltb (l .expected) modulus) f (b .1) in
+    let a = and-both (formed (l .queue)) (ltb (l .base) modulus && (ltb (l .expected) modulus && f)) e in
+    let b = and-both (ltb (l .base) modulus) (ltb (l .expected) modulus && f) (a .1) in
+    let c = and-both (ltb (l .expected) modulus) f (b .1) in
     record { queue = a .0; base = ltb-true _ _ (b .0); expected = ltb-true _ _ (c .0); state = c .1 }
 
 pub whole : (l : Link) → Parts l → wellFormed l ≡ true
@@ -67,6 +68,11 @@ open-fits Reset n r b e e′ h f = absurd (false≢true h)
 open-fits Data n r b e e′ h f = f
 open-fits Wait n r b e e′ h f = f
 
+-- and so is every number where the state is that of the queue
+pub queue-fits : (q : List (List ℕ)) (r : Bool) (b e : ℕ) → stateFits (stateOf q) (length q) r b e ≡ true
+queue-fits [] r b e = refl
+queue-fits (p ∷ q) r b e = lt-ltb 0 (suc (length q)) (omega arith)
+
 module _ (l : Link) where
   -- DLIDLE goes over to DLRESET, and DLRESET to DLDATA, with the same queue and numbers
   pub idle-fits : {s : State} → s ≡ Idle → fits l s ≡ true → fits l Reset ≡ true
@@ -74,7 +80,7 @@ module _ (l : Link) where
 
   pub reset-fits : {s : State} → s ≡ Reset → fits l s ≡ true → fits l Data ≡ true
   reset-fits h f =
-      let rests : atRest (l .queue) ≡ true = both (atRest (l .queue)) (eqb (l .base) 0 && eqb (l .expected) 0) (rw h at f) .0 in
+      let rests : atRest (l .queue) ≡ true = and-both (atRest (l .queue)) (eqb (l .base) 0 && eqb (l .expected) 0) (rw h at f) .0 in
       eq-eqb _ _ (rest-held (l .queue) rests)
 
   -- as many payloads as the queue counts

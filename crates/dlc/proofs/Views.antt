@@ -1,5 +1,5 @@
 -- What the link's own functions make of a view. Assumes nothing.
-use Prim.Native.Nat.{ℕ, zero, suc, _-_, _<_, _≤_}
+use Prim.Native.Nat.{ℕ, _-_, _<_, _≤_}
 use native.Mathlib.Omega.{arith}
 use mathlib.Core.Path.{_≡_, refl, sym, _∙_}
 use mathlib.Core.Bool.{true, cond}
@@ -18,7 +18,7 @@ use Rattle.dlc_queue.specs.Queue.{slots, payloads, held, formed, atRest, fresh 
 use Rattle.dlc_queue.proofs.Slots.{fresh-formed, emptied-formed, push-held, push-payloads, push-formed, remove-held, remove-payloads, remove-formed}
 use Rattle.dlc.specs.declared.Link.{Link}
 use Rattle.dlc.specs.View.{wellFormed, stateFits, seen, view, relinked}
-use Rattle.dlc.proofs.Parts.{parts, whole, fits, open-fits}
+use Rattle.dlc.proofs.Parts.{parts, whole, fits, open-fits, queue-fits}
 
 -- a fresh link
 abbrev pub freshWith : Queue → Link
@@ -74,10 +74,6 @@ state-of : (ps : List (List ℕ)) (n : ℕ) → length ps ≡ n → stateOf ps �
 state-of [] n e = rw (sym e)
 state-of (p ∷ ps) n e = rw (ne-eqb n 0 (λ z. omega (arith, z, e)))
 
-open-state-fits : (n : ℕ) (q : Queue) (b e : ℕ) → stateFits (cond (eqb n 0) Data Wait) n (atRest q) b e ≡ true
-open-state-fits zero q b e = refl
-open-state-fits (suc n) q b e = rw (ne-eqb (suc n) 0 (λ z. omega (arith, z))) (lt-ltb 0 (suc n) (omega arith))
-
 -- the n oldest payloads fewer
 pub view-without : (l : Link) (w : wellFormed l ≡ true) (q : Queue) (n b : ℕ) (s : State) → length (view l .queue) ≡ held (l .queue) → n ≤ held (l .queue)
     → Removed (l .queue) n q
@@ -90,6 +86,7 @@ view-without l w q n b s long h m e t =
     let ps : payloads q ≡ drop n (view l .queue) = remove-payloads (l .queue) q (g .queue) n h m in
     let len : length (drop n (view l .queue)) ≡ held q = length-drop n (view l .queue) ∙ omega (arith, long, c) in
     let st : s ≡ stateOf (drop n (view l .queue)) = t ∙ sym (state-of (drop n (view l .queue)) (held q) len) in
-    let f : stateFits s (held q) (atRest q) b (l .expected) ≡ true = rw t (open-state-fits (held q) q b (l .expected)) in
+    let f : stateFits s (held q) (atRest q) b (l .expected) ≡ true =
+    (λ i. stateFits (st i) (sym len i) (atRest q) b (l .expected)) ∙ queue-fits (drop n (view l .queue)) (atRest q) b (l .expected) in
     rebuilt-view l w s q b (l .expected) (remove-formed (l .queue) q (g .queue) n h m) (omega (arith, e)) (g .expected) f
     ∙ (λ i. rebuilt (view l) (st i) (ps i) (e i) (l .expected))

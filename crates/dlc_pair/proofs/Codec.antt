@@ -1,14 +1,15 @@
 -- Packets of the sliding window as octets. Assumes nothing.
-use Prim.Native.Nat.{ℕ, zero, suc, _+_, _/_, _%_, _≤_, _<_}
+use Prim.Native.Nat.{ℕ, suc, _+_, _/_, _%_, _≤_, _<_}
 use native.Mathlib.Omega.{arith}
 use mathlib.Core.Path.{_≡_, refl, ap, _∙_}
 use mathlib.Core.Bool.{Bool, true, false}
 use mathlib.Core.List.{List, [], _∷_, _++_, map}
-use lib.ListN.{length, drop}
+use lib.ListN.{length}
 use lib.Dec.{ltb, eqb}
 use borrow.Author.Tests.{le-ltb, eq-eqb, ne-eqb}
 use Rattle.dlc_packet.specs.declared.Kind.the-variants.{Data, Dack}
 use Rattle.dlc_packet.specs.Packet.{resetOctet, resetAckOctet, dataOctet, dackOctet}
+use Rattle.dlc_queue.proofs.Values.{Short}
 use Rattle.dlc.specs.Limits.{modulus, maxPayload, dataPacket, dackPacket, dataPackets, kindOf}
 use Rattle.dlc_run.specs.Replies.{Octets, Packets, isData, isDack}
 use Rattle.window.specs.Packets.{Packet, dataPdu, dackPdu, countData, countDack, numbered}
@@ -88,15 +89,6 @@ pub dataPackets-numbered : (x : ℕ) (q : Packets) → dataPackets x q ≡ map e
 dataPackets-numbered x [] = refl
 dataPackets-numbered x (p ∷ q) = ap (λ (t : Packets). dataPacket x p ∷ t) (dataPackets-numbered ((x + 1) % modulus) q)
 
--- no payload of a list is too long
-abbrev pub Short : Packets → Type 0
-Short q = All (λ (p : Octets). length p ≤ maxPayload) q
-
 pub sound-numbered : (x : ℕ) (q : Packets) → x < modulus → Short q → All Sound (numbered x q)
 sound-numbered x [] h s = tt
 sound-numbered x (p ∷ q) h s = ((h, s .0), sound-numbered ((x + 1) % modulus) q (omega arith) (s .1))
-
-pub short-drop : (n : ℕ) (q : Packets) → Short q → Short (drop n q)
-short-drop zero q s = s
-short-drop (suc n) [] s = s
-short-drop (suc n) (p ∷ q) s = short-drop n q (s .1)

@@ -23,7 +23,7 @@ use Rattle.dlc_pair.specs.Demand3.{OneWay, Demand3}
 use Rattle.dlc_pair.proofs.Relation.{Follows, BothFollow as BothFollowBy, follow-initial}
 use Rattle.dlc_pair.proofs.Simulates.{Simulates}
 use Rattle.dlc_pair.proofs.Runs.{eventOf, run-follows, timerWaits-follow}
-use Rattle.dlc_pair.proofs.Effects.{modelOf, lawful, simulates}
+use Rattle.dlc_pair.proofs.Effects.{modelOf, opened-fits, lawful, simulates}
 
 -- ---- of whatever rules and models the step table simulates
 module _ {rules : Rules} {modelOf : Peer → Model} (table : Simulates rules modelOf) (lawful : Lawful rules) where
@@ -60,4 +60,4 @@ demand-three-from f es h = demand-three-by simulates lawful f es h
 -- demand 3: for every type of links and its view, and every list of events, whatever its calls give back under their contracts
 pub demand-three : {L : Type 0} (v : L → Model) (l l′ : L) → v l ≡ opened → v l′ ≡ opened → (es : List Event) (h : History v es (initial l l′))
     → Demand3 v es (initial l l′) h
-demand-three v l l′ e e′ es h = demand-three-from (follow-initial modelOf l l′ e e′) es h
+demand-three v l l′ e e′ es h = demand-three-from (follow-initial opened-fits l l′ e e′) es h

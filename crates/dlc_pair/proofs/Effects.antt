@@ -5,30 +5,26 @@ use Prim.Native.Nat.{ℕ, zero, suc, _≤_, _<_}
 use native.Mathlib.Omega.{arith}
 use native.Mathlib.Nat.{add-zero}
 use mathlib.Core.Path.{_≡_, refl, sym, ap, subst, _∙_}
-use mathlib.Core.Bool.{Bool, true, false, cond, not, _&&_, false≢true}
+use mathlib.Core.Bool.{Bool, true, false, cond, not, _&&_}
 use mathlib.Core.List.{[], _∷_, _++_, append-nil}
 use lib.ListN.{length}
 use lib.Dec.{leb, ltb, eqb, leb·suc-zero}
 use borrow.Author.Tests.{lt-ltb, le-ltb, leb-true, leb-false, ltb-false}
 use Rattle.dlc_packet.proofs.Numbers.{distance-dackNumber}
-use Rattle.dlc_table.specs.declared.State.the-variants.{Reset}
+use Rattle.dlc_table.specs.declared.State.the-variants.{Reset, Data}
 use Rattle.dlc_table.specs.Answers.{done, payloadTooLong, notOpen, queueFull, noEntry, otherNumber, replyTooSmall}
 use Rattle.dlc_table.specs.Model.{Model, rebuilt, inState, fresh, opened}
 use Rattle.dlc_table.specs.Events.{Effect, effect, refuse, cleared, expectNext, dackOf, judged, dataStep, stateOf, without, distanceOf, dackStep, timerStep, startStep}
 use Rattle.dlc_table.specs.Events.{queued, isOpen, packetStep, startOf, timerOf, payloadOf, arrivalOf}
-use Rattle.dlc_queue.proofs.Values.{Short as ShortQueue}
-use Rattle.dlc.specs.declared.Link.{Link}
 use Rattle.dlc.specs.Limits.{modulus, advance, slots, maxPayload, replySize, resetPacket, resetAckPacket, dataPackets}
-use Rattle.dlc.specs.View.{stateFits, view}
-use Rattle.dlc.proofs.Values.{linkOf, view-linkOf, fits-fresh as fresh-fits, fits-rebuilt}
+use Rattle.dlc.proofs.Values.{Fits, fits-fresh, fits-rebuilt}
 use Rattle.dlc_run.specs.Replies.{Octets, Packets}
 use Rattle.window.specs.Packets.{Packet, dataPdu, dackPdu, numbered}
 use Rattle.window.specs.Ends.{Lawful, End as Peer, delivering, freed, lostOne, acknowledges, withSender, firstSent, accept, sendAll, takeData}
 use Rattle.window.proofs.InFlight.{All}
 use Rattle.dlc_pair.specs.Rules.{rules}
-use Rattle.dlc_pair.proofs.Codec.{encode, Sound, Short, kindOf-data, kindOf-dack, dataPackets-numbered, sound-numbered}
-use Rattle.dlc_pair.proofs.Relation.{Fits}
-use Rattle.dlc_pair.proofs.OneCall.{becomes-same, becomes-sender, becomes-answer, fits-accept, fits-sendAll, fits-takeData, fits-lostOne, fits-freed}
+use Rattle.dlc_pair.proofs.Codec.{encode, Sound, kindOf-data, kindOf-dack, dataPackets-numbered, sound-numbered}
+use Rattle.dlc_pair.proofs.OneCall.{becomes-same, becomes-sender, becomes-answer}
 use Rattle.dlc_pair.proofs.Simulates.{tooShort, passes, offered, timedOut, reached, Bare, Offer, Arrival, Simulates}
 
 -- the rules of the sliding window are kept: the slots are fewer than the numbers, and a DACK's distance is what it acknowledges
@@ -39,23 +35,8 @@ lawful = record { below = omega arith; distance = distance-dackNumber }
 abbrev pub modelOf : Peer → Model
 modelOf a = rebuilt opened (stateOf (a .sender .queue)) (a .sender .queue) (a .sender .base) (a .receiver .expected)
 
--- ---- a link that holds it
-state-fits : (q : Packets) (b x : ℕ) → stateFits (stateOf q) (length q) (eqb (length q) 0) b x ≡ true
-state-fits [] b x = refl
-state-fits (p ∷ q) b x = lt-ltb 0 (suc (length q)) (omega arith)
-
--- the same said of the queue's payloads
-short-queue : (q : Packets) → Short q → ShortQueue q
-short-queue [] s = tt
-short-queue (p ∷ q) s = (s .0, short-queue q (s .1))
-
-value : (a : Peer) → Fits a → (l : Link) × (view l ≡ modelOf a)
-value a f = (
-  linkOf (modelOf a),
-  view-linkOf (modelOf a) (fits-rebuilt fresh fresh-fits _ (a .sender .queue) (a .sender .base) (a .receiver .expected)
-      (f .few) (short-queue (a .sender .queue) (f .short)) (f .base) (f .expected)
-      (state-fits (a .sender .queue) (a .sender .base) (a .receiver .expected))),
-)
+pub opened-fits : Fits opened
+opened-fits = fits-rebuilt fresh fits-fresh Data [] 0 0 (omega arith) tt (omega arith) (omega arith) refl
 
 -- ---- start: 26 or 24
 abbrev startEffect : Bool → Model → Effect
@@ -69,9 +50,9 @@ startOf-open : (a : Peer) (n : ℕ) → startOf slots (modelOf a) n ≡ startEff
 unfolding startOf
 startOf-open a n = ap (cond (ltb n replySize) (refuse (modelOf a) replyTooSmall)) (start-open (modelOf a) (a .sender .queue))
 
-start-becomes : (a : Peer) → Fits a → (short : Bool) → Bare modelOf (startEffect short (modelOf a)) a a
-start-becomes a f true = becomes-same replyTooSmall (λ e. omega (arith, e)) f
-start-becomes a f false = becomes-same noEntry (λ e. omega (arith, e)) f
+start-becomes : (a : Peer) (short : Bool) → Bare modelOf (startEffect short (modelOf a)) a a
+start-becomes a true = becomes-same replyTooSmall (λ e. omega (arith, e))
+start-becomes a false = becomes-same noEntry (λ e. omega (arith, e))
 
 -- ---- timer: 26, 24 or all sent
 abbrev timerEffect : Bool → Bool → Model → Effect
@@ -85,12 +66,11 @@ timerOf-open : (a : Peer) (n : ℕ) → timerOf slots (modelOf a) n ≡ timerEff
 unfolding timerOf
 timerOf-open a n = ap (cond (ltb n replySize) (refuse (modelOf a) replyTooSmall)) (timer-open (modelOf a) (a .sender .queue))
 
-timer-becomes : (a : Peer) → Fits a → (short some : Bool) → Bare modelOf (timerEffect short some (modelOf a)) a (cond (not short && some) (sendAll rules a) a)
-timer-becomes a f true some = becomes-same replyTooSmall (λ e. omega (arith, e)) f
-timer-becomes a f false false = becomes-same noEntry (λ e. omega (arith, e)) f
+timer-becomes : (a : Peer) → Fits (modelOf a) → (short some : Bool) → Bare modelOf (timerEffect short some (modelOf a)) a (cond (not short && some) (sendAll rules a) a)
+timer-becomes a f true some = becomes-same replyTooSmall (λ e. omega (arith, e))
+timer-becomes a f false false = becomes-same noEntry (λ e. omega (arith, e))
 timer-becomes a f false true = record {
   model = refl;
-  stays = λ e. refl;
   code = λ e. omega (arith, e);
   sends = numbered (a .sender .base) (a .sender .queue);
   packets = dataPackets-numbered (a .sender .base) (a .sender .queue);
@@ -99,7 +79,6 @@ timer-becomes a f false true = record {
   delivers = sym (append-nil (a .receiver .delivered));
   sent = refl;
   loses = sym (add-zero (a .sender .lost));
-  fits = fits-sendAll rules a f;
   sound = sound-numbered (a .sender .base) (a .sender .queue) (f .base) (f .short);
 }
 
@@ -127,15 +106,13 @@ sound-first : (once : Bool) (x : ℕ) (p : Octets) → x < modulus → length p 
 sound-first true x p h k = ((h, k), tt)
 sound-first false x p h k = tt
 
-payload-becomes : (a : Peer) → Fits a → (p : Octets) (short long full : Bool) → (long ≡ false → length p ≤ maxPayload)
-    → (full ≡ false → length (a .sender .queue) < slots)
+payload-becomes : (a : Peer) (p : Octets) (short long full : Bool) → (long ≡ false → length p ≤ maxPayload)
     → Offer modelOf p (payloadEffect short long full (modelOf a) p) a (cond ((not short && not long) && not full) (accept rules p a) a)
-payload-becomes a f p true long full hl hf = becomes-same replyTooSmall (λ e. omega (arith, e)) f
-payload-becomes a f p false true full hl hf = becomes-same payloadTooLong (λ e. omega (arith, e)) f
-payload-becomes a f p false false true hl hf = becomes-same queueFull (λ e. omega (arith, e)) f
-payload-becomes a f p false false false hl hf = record {
+payload-becomes a p true long full hl = becomes-same replyTooSmall (λ e. omega (arith, e))
+payload-becomes a p false true full hl = becomes-same payloadTooLong (λ e. omega (arith, e))
+payload-becomes a p false false true hl = becomes-same queueFull (λ e. omega (arith, e))
+payload-becomes a p false false false hl = record {
   model = λ i. rebuilt opened (state-snoc (a .sender .queue) p i) (a .sender .queue ++ (p ∷ [])) (a .sender .base) (a .receiver .expected);
-  stays = λ e. absurd (false≢true e);
   code = λ e. omega (arith, e);
   sends = firstSent (rules .atOnce) (advance (a .sender .base) (length (a .sender .queue))) p;
   packets = refl;
@@ -144,7 +121,6 @@ payload-becomes a f p false false false hl hf = record {
   delivers = sym (append-nil (a .receiver .delivered));
   sent = refl;
   loses = sym (add-zero (a .sender .lost));
-  fits = fits-accept rules a f p (hf refl) (hl refl);
   sound = sound-first (rules .atOnce) (advance (a .sender .base) (length (a .sender .queue))) p (omega arith) (hl refl);
 }
 
@@ -174,12 +150,12 @@ unfolding arrivalOf
 arrivalOf-data a x p n h =
     ap (cond (ltb n replySize) (refuse (modelOf a) replyTooSmall)) (ap (packetStep (modelOf a)) (kindOf-data x p h) ∙ data-open (modelOf a) (a .sender .queue) x)
 
-data-becomes : (a : Peer) → Fits a → (x : ℕ) (p : Octets) (short hit : Bool)
+data-becomes : (a : Peer) → Fits (modelOf a) → (x : ℕ) (p : Octets) (short hit : Bool)
     → Arrival modelOf (dataPdu x p) (dataEffect short hit (modelOf a)) a (cond (not short) (takeData rules hit p a) a)
-data-becomes a f x p true hit = becomes-same replyTooSmall (λ e. omega (arith, e)) f
-data-becomes a f x p false true = becomes-answer rules (delivering p (a .receiver)) refl refl (λ e. omega (arith, e)) refl refl (fits-takeData rules a f true p) (omega arith)
+data-becomes a f x p true hit = becomes-same replyTooSmall (λ e. omega (arith, e))
+data-becomes a f x p false true = becomes-answer rules (delivering p (a .receiver)) refl (λ e. omega (arith, e)) refl refl (omega arith)
 data-becomes a f x p false false =
-    becomes-answer rules (a .receiver) refl refl (λ e. omega (arith, e)) refl (sym (append-nil (a .receiver .delivered))) (fits-takeData rules a f false p) (f .expected)
+    becomes-answer rules (a .receiver) refl (λ e. omega (arith, e)) refl (sym (append-nil (a .receiver .delivered))) (f .expected)
 
 -- ---- DACK: 26, 24 or slots freed
 abbrev dackEffect : Bool → Bool → Model → ℕ → Effect
@@ -208,17 +184,17 @@ unfolding arrivalOf
 arrivalOf-dack a x n h =
     ap (cond (ltb n replySize) (refuse (modelOf a) replyTooSmall)) (ap (packetStep (modelOf a)) (kindOf-dack x h) ∙ dack-open (modelOf a) (a .sender .queue) x refl)
 
-dack-becomes : (a : Peer) → Fits a → (x d : ℕ) (short some : Bool)
+dack-becomes : (a : Peer) (x d : ℕ) (short some : Bool)
     → Arrival modelOf (dackPdu x) (dackEffect short some (modelOf a) d) a
     (withSender (cond (not short) (cond some (freed d (a .sender)) (a .sender)) (lostOne (a .sender))) a)
-dack-becomes a f x d true some =
-    becomes-sender (lostOne (a .sender)) refl (λ e. refl) (λ e. omega (arith, e)) refl refl refl (omega arith) (fits-lostOne a f)
-dack-becomes a f x d false false = becomes-same noEntry (λ e. omega (arith, e)) f
-dack-becomes a f x d false true =
-    becomes-sender (freed d (a .sender)) refl (λ e. absurd (false≢true e)) (λ e. omega (arith, e)) refl refl refl (omega arith) (fits-freed a f d)
+dack-becomes a x d true some =
+    becomes-sender (lostOne (a .sender)) refl (λ e. omega (arith, e)) refl refl refl (omega arith)
+dack-becomes a x d false false = becomes-same noEntry (λ e. omega (arith, e))
+dack-becomes a x d false true =
+    becomes-sender (freed d (a .sender)) refl (λ e. omega (arith, e)) refl refl refl (omega arith)
 
 -- ---- all of them
-arrival-becomes : (a : Peer) → Fits a → (k : Packet) → Sound k → (before : Octets)
+arrival-becomes : (a : Peer) → Fits (modelOf a) → (k : Packet) → Sound k → (before : Octets)
     → Arrival modelOf k (arrivalOf slots (modelOf a) (encode k) (length before)) a (reached rules (not (tooShort before)) k a)
 arrival-becomes a f (dataPdu x p) h before =
     subst (λ (d : Effect). Arrival modelOf (dataPdu x p) d a (reached rules (not (tooShort before)) (dataPdu x p) a)) (sym (arrivalOf-data a x p (length before) h))
@@ -226,7 +202,7 @@ arrival-becomes a f (dataPdu x p) h before =
 arrival-becomes a f (dackPdu x) h before =
     let d = rules .distance (a .sender .base) x in
     subst (λ (d : Effect). Arrival modelOf (dackPdu x) d a (reached rules (not (tooShort before)) (dackPdu x) a)) (sym (arrivalOf-dack a x (length before) h))
-    (dack-becomes a f x d (tooShort before) (acknowledges d (a .sender .queue)))
+    (dack-becomes a x d (tooShort before) (acknowledges d (a .sender .queue)))
 
 refused-short : (a : Peer) (k : Packet) → Sound k → (before : Octets)
     → eqb (arrivalOf slots (modelOf a) (encode k) (length before) .code) replyTooSmall ≡ tooShort before
@@ -249,18 +225,18 @@ refused-short a (dackPdu x) h before =
 pub simulates : Simulates rules modelOf
 simulates = record {
   window = refl;
+  holds = opened-fits;
   queue = λ a. refl;
   relined = λ ks n a. refl;
-  value = value;
-  start = λ a f before. subst (λ (d : Effect). Bare modelOf d a a) (sym (startOf-open a (length before))) (start-becomes a f (tooShort before));
+  start = λ a before. subst (λ (d : Effect). Bare modelOf d a a) (sym (startOf-open a (length before))) (start-becomes a (tooShort before));
   timer = λ a f before.
       subst (λ (d : Effect). Bare modelOf d a (timedOut rules (not (tooShort before)) a)) (sym (timerOf-open a (length before)))
       (timer-becomes a f (tooShort before) (ltb 0 (length (a .sender .queue))));
-  payload = λ a f p before.
+  payload = λ a p before.
       subst (λ (d : Effect). Offer modelOf p d a (offered rules (passes p before) p a)) (sym (payloadOf-open a p (length before)))
       (rw (ltb-not-leb (length (a .sender .queue)) slots)
-      (payload-becomes a f p (tooShort before) (ltb maxPayload (length p)) (leb slots (length (a .sender .queue)))
-      (ltb-false maxPayload (length p)) (leb-false slots (length (a .sender .queue)))));
+      (payload-becomes a p (tooShort before) (ltb maxPayload (length p)) (leb slots (length (a .sender .queue)))
+      (ltb-false maxPayload (length p))));
   arrival = arrival-becomes;
   refused = refused-short;
 }
@@ -268,6 +244,9 @@ simulates = record {
 -- ---- on the way to an open link, where the reply buffer is large enough
 abbrev pub resetting : Model
 resetting = inState Reset fresh
+
+pub resetting-fits : Fits resetting
+resetting-fits = fits-rebuilt fresh fits-fresh Reset [] 0 0 (omega arith) tt (omega arith) (omega arith) refl
 
 module _ (n : ℕ) (h : replySize ≤ n) where
   pub startOf-fresh : startOf slots fresh n ≡ effect done [] resetting

@@ -1,90 +1,70 @@
--- Every list of events has a history, from every world that follows the packet system: no choice of outcomes gets stuck. The links given back here
--- are values that the code can hold. For every type of links in which each `Link` has a value (`Covers`): `Link` itself, and the link in plain
--- numbers; and of whatever rules and models the step table simulates. Assumes nothing.
+-- Every list of events at two ends has a history, from every world whose links fit: no choice of outcomes gets stuck. The links given back are values
+-- that the code can hold (dlc_run/proofs/Existence, for one end). For every type of links in which each `Link` has a value. Assumes nothing.
 use Prim.Native.Nat.{ℕ}
-use mathlib.Core.Path.{_≡_, refl, sym, subst, _∙_}
-use mathlib.Core.Bool.{Bool, true, false, false≢true}
-use mathlib.Core.List.{List, [], _∷_, map, flatten}
-use lib.ListN.{length}
-use Rattle.common.specs.Buffer.{withFront}
-use Rattle.dlc_table.specs.Answers.{refuses}
+use mathlib.Core.Option.{Option, none, some}
+use mathlib.Core.List.{List, [], _∷_}
+use lib.ListN.{getElem?}
 use Rattle.dlc_table.specs.Model.{Model}
-use Rattle.dlc_table.specs.Events.{Effect, startOf, timerOf, payloadOf, arrivalOf}
-use Rattle.dlc.specs.declared.Link.{Link}
-use Rattle.dlc.specs.Limits.{slots}
-use Rattle.dlc.specs.View.{view}
-use Rattle.dlc.specs.Calls.{answerOf, Meets}
-use Rattle.dlc_run.specs.Replies.{Octets, Packets, Reply}
-use Rattle.window.specs.Sides.{Side, left, right, Both}
-use Rattle.window.specs.Packets.{Packet}
-use Rattle.window.specs.Ends.{Rules, End as Peer}
-use Rattle.window.proofs.InFlight.{All}
+use Rattle.dlc_table.specs.Runs.{payload as payloadCall, timer as timerCall, start as startCall, arrival as arrivalCall}
+use Rattle.dlc.proofs.Values.{Fits}
+use Rattle.dlc_run.specs.Replies.{Octets, Packets}
+use Rattle.dlc_run.proofs.Existence.{Covers, link-fits, reply-exists}
+use Rattle.window.specs.Sides.{Side, left, right, mirror}
 use Rattle.dlc_pair.specs.World.{World}
-use Rattle.dlc_pair.specs.History.{Act, payload, timer, start, arrival, loss, Event, GivenFront, Given, GivenAt, History}
-use Rattle.dlc_pair.proofs.Codec.{encode, Sound}
-use Rattle.dlc_pair.proofs.Relation.{Fits, BothFollow, follow-mirror}
-use Rattle.dlc_pair.proofs.OneCall.{Becomes}
-use Rattle.dlc_pair.proofs.Simulates.{Simulates}
-use Rattle.dlc_pair.proofs.Runs.{stepAt-follows}
+use Rattle.dlc_pair.specs.History.{Act, payload, timer, start, arrival, loss, Event, GivenFront, Given, GivenAt, arrived, lostAt, after, afterAt, History, final}
 
--- what a call may give back: a link of the model after it, on a refusal the very link that came
-pub reply : {L : Type 0} {v : L → Model} (d : Effect) (l : L) (before : Octets) (r : L) → v r ≡ d .after → (refuses (d .code) ≡ true → r ≡ l)
-    → Reply (Meets v d l before)
-reply d l before r e kept = record {
-  later = withFront (flatten (d .packets)) before;
-  link = r;
-  answer = answerOf d;
-  meets = record { returns = record { answer = refl; link = e; kept = kept }; reply = refl };
-}
+-- a world whose links fit
+pub record BothFit {L : Type 0} (v : L → Model) (w : World L) : Type 0 where
+  pub left : Fits (v (w .left .link))
+  pub right : Fits (v (w .right .link))
 
--- a type of links in which every `Link` has a value that is seen as it is
-abbrev pub Covers : {L : Type 0} → (L → Model) → Type 0
-Covers {L} v = (l : Link) → (r : L) × (v r ≡ view l)
+fit-mirror : {L : Type 0} {v : L → Model} {w : World L} → BothFit v w → BothFit v (mirror w)
+fit-mirror f = record { left = f .right; right = f .left }
 
-module _ {rules : Rules} {modelOf : Peer → Model} (table : Simulates rules modelOf) {L : Type 0} {v : L → Model} (covers : Covers v) where
-  -- a link for each end of the packet system that one can hold
-  pub value-of : (a : Peer) → Fits a → (l : L) × (v l ≡ modelOf a)
-  value-of a f =
-      let l = table .value a f in
-      let r = covers (l .0) in
-      (r .0, r .1 ∙ l .1)
+-- ---- whatever the calls give back, they fit again
+module _ {L : Type 0} {v : L → Model} {w : World L} (f : BothFit v w) where
+  arrived-fit : (l : Packets) (before : Octets) (g : GivenFront v l (w .left) before) → BothFit v (arrived v l before w g)
+  arrived-fit [] before g = f
+  arrived-fit (q ∷ qs) before g = record { left = link-fits v (arrivalCall q before) (w .left .link) g (f .left); right = f .right }
 
-  reply-of : {d : Effect} {a b : Peer} {accepted delivered : Packets} {n : ℕ} → Becomes modelOf d a b accepted delivered n → (l : L) → v l ≡ modelOf a
-      → (before : Octets)
-      → Reply (Meets v d l before)
-  reply-of {d} {a} {b} c l e before = by-refusal (refuses (d .code)) refl
-    where
-      by-refusal : (t : Bool) → refuses (d .code) ≡ t → Reply (Meets v d l before)
-      by-refusal true z = reply d l before l (e ∙ sym (c .stays z)) (λ _. refl)
-      by-refusal false z =
-          let r = value-of b (c .fits) in
-          reply d l before (r .0) (r .1 ∙ sym (c .model)) (λ t. absurd (false≢true (sym z ∙ t)))
+  lost-fit : (n : ℕ) (q : Option Octets) → BothFit v (lostAt n q w)
+  lost-fit n none = f
+  lost-fit n (some q) = record { left = f .left; right = f .right }
 
-  module _ {w : World L} {s : Both Peer} (f : BothFollow modelOf v w s) (before : Octets) where
-    -- a call at the left end, by its effect at the model there
-    reply-at : (e : Model → Effect) {b : Peer} {accepted delivered : Packets} {n : ℕ} → Becomes modelOf (e (modelOf (s .left))) (s .left) b accepted delivered n
-        → Reply (Meets v (e (v (w .left .link))) (w .left .link) before)
-    reply-at e c = subst (λ (m : Model). Reply (Meets v (e m) (w .left .link) before)) (sym (f .left .model)) (reply-of c (w .left .link) (f .left .model) before)
+  after-fit : (a : Act) (g : Given v a w) → BothFit v (after v a w g)
+  after-fit (payload p before) g = record { left = link-fits v (payloadCall p before) (w .left .link) g (f .left); right = f .right }
+  after-fit (timer before) g = record { left = link-fits v (timerCall before) (w .left .link) g (f .left); right = f .right }
+  after-fit (start before) g = record { left = link-fits v (startCall before) (w .left .link) g (f .left); right = f .right }
+  after-fit (arrival before) g = arrived-fit (w .right .line) before g
+  after-fit (loss n) g = lost-fit n (getElem? (w .left .line) n)
 
-    front-given : (ks : List Packet) → All Sound ks → GivenFront v (map encode ks) (w .left) before
-    front-given [] h = tt
-    front-given (k ∷ ks) h = reply-at (λ (m : Model). arrivalOf slots m (encode k) (length before)) (table .arrival (s .left) (f .left .fits) k (h .0) before)
+afterAt-fit : {L : Type 0} {v : L → Model} {w : World L} → BothFit v w → (d : Side) (a : Act) (g : GivenAt v d a w) → BothFit v (afterAt v d a w g)
+afterAt-fit f left a g = after-fit f a g
+afterAt-fit f right a g = fit-mirror (after-fit (fit-mirror f) a g)
 
-  given : (a : Act) {w : World L} {s : Both Peer} → BothFollow modelOf v w s → Given v a w
-  given (payload p before) {w} {s} f =
-      reply-at f before (λ (m : Model). payloadOf slots m p (length before)) (table .payload (s .left) (f .left .fits) p before)
-  given (timer before) {w} {s} f = reply-at f before (λ (m : Model). timerOf slots m (length before)) (table .timer (s .left) (f .left .fits) before)
-  given (start before) {w} {s} f = reply-at f before (λ (m : Model). startOf slots m (length before)) (table .start (s .left) (f .left .fits) before)
-  given (arrival before) {w} {s} f =
-      subst (λ (l : Packets). GivenFront v l (w .left) before) (sym (f .right .line)) (front-given f before (s .right .line) (f .right .sound))
-  given (loss n) f = tt
+pub run-fit : {L : Type 0} {v : L → Model} (es : List Event) {w : World L} → BothFit v w → (h : History v es w) → BothFit v (final v es w h)
+run-fit [] f h = f
+run-fit (e ∷ es) f h = run-fit es (afterAt-fit f (e .side) (e .act) (h .0)) (h .1)
 
-  given-at : (d : Side) (a : Act) {w : World L} {s : Both Peer} → BothFollow modelOf v w s → GivenAt v d a w
-  given-at left a f = given a f
-  given-at right a f = given a (follow-mirror f)
+-- ---- there is something to give back
+module _ {L : Type 0} {v : L → Model} (covers : Covers v) where
+  front-given : {w : World L} → BothFit v w → (l : Packets) (before : Octets) → GivenFront v l (w .left) before
+  front-given f [] before = tt
+  front-given {w} f (q ∷ qs) before = reply-exists covers (arrivalCall q before) (w .left .link) (f .left)
 
-  pub history-of : (es : List Event) {w : World L} {s : Both Peer} → BothFollow modelOf v w s → History v es w
+  given : {w : World L} → BothFit v w → (a : Act) → Given v a w
+  given {w} f (payload p before) = reply-exists covers (payloadCall p before) (w .left .link) (f .left)
+  given {w} f (timer before) = reply-exists covers (timerCall before) (w .left .link) (f .left)
+  given {w} f (start before) = reply-exists covers (startCall before) (w .left .link) (f .left)
+  given {w} f (arrival before) = front-given f (w .right .line) before
+  given f (loss n) = tt
+
+  given-at : {w : World L} → BothFit v w → (d : Side) (a : Act) → GivenAt v d a w
+  given-at f left a = given f a
+  given-at f right a = given (fit-mirror f) a
+
+  pub history-of : (es : List Event) {w : World L} → BothFit v w → History v es w
   history-of [] f = tt
   history-of (e ∷ es) f =
-      let g = given-at (e .side) (e .act) f in
-      (g, history-of es (stepAt-follows table (e .side) (e .act) f g))
+      let g = given-at f (e .side) (e .act) in
+      (g, history-of es (afterAt-fit f (e .side) (e .act) g))

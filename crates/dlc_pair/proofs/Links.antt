@@ -1,32 +1,24 @@
 -- Demand 3 of the two types of links: `Link`, and the link in plain numbers that C programs hold, where the calls are what the exported functions
 -- ensure. Each is the theorem of every view, at this one; so are `progress`, `recovers`, `opening` and the worked runs, which need no value of
 -- the type. Assumes nothing.
-use mathlib.Core.Path.{_≡_, refl}
+use mathlib.Core.Path.{_≡_}
 use mathlib.Core.Bool.{true}
 use mathlib.Core.List.{List}
 use Rattle.dlc_table.specs.Model.{fresh, opened}
 use Rattle.dlc.specs.declared.Link.{Link}
 use Rattle.dlc.specs.View.{view}
 use Rattle.dlc_plain.specs.declared.PlainLink.{PlainLink}
-use Rattle.dlc_plain.specs.Plain.{plainOf, view as plainView}
-use Rattle.dlc_plain.proofs.Conversions.{view-plain}
+use Rattle.dlc_plain.specs.Plain.{view as plainView}
 use Rattle.dlc_run.specs.Replies.{Octets}
+use Rattle.dlc_run.proofs.Links.{link-covers, plain-covers}
 use Rattle.dlc_pair.specs.World.{initial}
 use Rattle.dlc_pair.specs.History.{Event, History, final}
 use Rattle.dlc_pair.specs.Demand3.{Demand3}
 use Rattle.dlc_pair.specs.Opening.{openingEvents}
 use Rattle.dlc_pair.specs.Progress.{Enough}
 use Rattle.dlc_pair.proofs.Demand3.{demand-three}
-use Rattle.dlc_pair.proofs.Existence.{Covers}
 use Rattle.dlc_pair.proofs.Theorems.{opened-value, history-exists, history-goes-on}
-use Rattle.dlc_pair.proofs.Opening.{fresh-value, opening-exists}
-
--- each type has a value for every `Link`
-link-covers : Covers view
-link-covers l = (l, refl)
-
-plain-covers : Covers plainView
-plain-covers l = (plainOf l, view-plain l)
+use Rattle.dlc_pair.proofs.Opening.{opening-exists}
 
 -- ---- demand 3
 pub demand-three-link : (l l′ : Link) → view l ≡ opened → view l′ ≡ opened → (es : List Event) (h : History view es (initial l l′))
@@ -59,13 +51,7 @@ pub history-goes-on-plain : (l l′ : PlainLink) → plainView l ≡ opened → 
     → History plainView more (final plainView es (initial l l′) h)
 history-goes-on-plain = history-goes-on plain-covers
 
--- ---- and it can be come to: there are fresh links, and a fresh one and any well-formed one can be opened
-pub fresh-link : (l : Link) × (view l ≡ fresh)
-fresh-link = fresh-value link-covers
-
-pub fresh-plain : (l : PlainLink) × (plainView l ≡ fresh)
-fresh-plain = fresh-value plain-covers
-
+-- ---- and it can be come to: there are fresh links (dlc_run/proofs/Links), and a fresh one and any well-formed one can be opened
 module _ (b₁ b₂ b₃ b₄ : Octets) (h₁ : Enough b₁) (h₂ : Enough b₂) (h₃ : Enough b₃) (h₄ : Enough b₄) where
   pub opening-exists-link : (l l′ : Link) → view l ≡ fresh → view l′ .ok ≡ true → History view (openingEvents b₁ b₂ b₃ b₄) (initial l l′)
   opening-exists-link l l′ e e′ = opening-exists view l l′ e e′ b₁ b₂ b₃ b₄ h₁ h₂ h₃ h₄ link-covers

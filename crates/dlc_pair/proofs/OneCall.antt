@@ -1,34 +1,30 @@
 -- A call at one end: what it has to do for its end to follow the packet system's. Over every modelOf, and for rules of every kind. Assumes nothing.
-use Prim.Native.Nat.{ℕ, _+_, _≤_, _<_}
-use native.Mathlib.Omega.{arith}
+use Prim.Native.Nat.{ℕ, _+_, _<_}
 use native.Mathlib.Nat.{add-zero}
 use mathlib.Core.Path.{_≡_, refl, sym, ap, subst, _∙_}
 use mathlib.Core.Logic.{_≢_}
-use mathlib.Core.Bool.{Bool, true, false, false≢true}
 use mathlib.Core.List.{List, [], _∷_, _++_, map, map-append, append-nil}
-use lib.ListN.{length, length-append, length-drop}
-use Rattle.dlc_table.specs.Answers.{badLink, refuses}
+use Rattle.dlc_table.specs.Answers.{badLink}
 use Rattle.dlc_table.specs.Model.{Model}
 use Rattle.dlc_table.specs.Events.{Effect, refuse}
 use Rattle.dlc_answer.specs.declared.Answer.{Answer}
-use Rattle.dlc.specs.Limits.{modulus, slots, maxPayload, dackPacket}
+use Rattle.dlc.specs.Limits.{modulus, dackPacket}
 use Rattle.dlc.specs.Calls.{Meets}
+use Rattle.dlc.proofs.Values.{Fits}
 use Rattle.dlc_run.proofs.Copied.{copiedBy-packets}
 use Rattle.dlc_run.specs.Replies.{Octets, Packets, isData, copiedBy}
 use Rattle.window.specs.Packets.{Packet, dackPdu, countData}
-use Rattle.window.specs.Ends.{Rules, End as Peer, Sender, Receiver, freed, lostOne, withSender, accept, sendAll, answering, takeData}
+use Rattle.window.specs.Ends.{Rules, End as Peer, Sender, Receiver, withSender, answering}
 use Rattle.window.proofs.InFlight.{All, all-++}
 use Rattle.dlc_pair.specs.World.{count, End}
 use Rattle.dlc_pair.specs.History.{called}
 use Rattle.dlc_pair.specs.Demand3.{Never}
-use Rattle.dlc_pair.proofs.Codec.{encode, Sound, short-drop, count-++, count-data}
-use Rattle.dlc_pair.proofs.Relation.{Fits, Follows}
+use Rattle.dlc_pair.proofs.Codec.{encode, Sound, count-++, count-data}
+use Rattle.dlc_pair.proofs.Relation.{Follows}
 
--- what an effect has to be for its end to follow the packet system's end b, which comes of a: it sends, accepts, delivers and loses as b does,
--- and a refusal leaves the model alone
+-- what an effect has to be for its end to follow the packet system's end b, which comes of a: it sends, accepts, delivers and loses as b does
 pub record Becomes (modelOf : Peer → Model) (d : Effect) (a b : Peer) (accepted delivered : Packets) (lost : ℕ) : Type 0 where
   pub model : d .after ≡ modelOf b
-  pub stays : refuses (d .code) ≡ true → d .after ≡ modelOf a
   pub code : d .code ≢ badLink
   pub sends : List Packet
   pub packets : d .packets ≡ map encode sends
@@ -37,7 +33,6 @@ pub record Becomes (modelOf : Peer → Model) (d : Effect) (a b : Peer) (accepte
   pub delivers : b .receiver .delivered ≡ a .receiver .delivered ++ delivered
   pub sent : b .sender .sent ≡ a .sender .sent + countData sends
   pub loses : b .sender .lost ≡ a .sender .lost + lost
-  pub fits : Fits b
   pub sound : All Sound sends
 
 pub never-snoc : (c : ℕ) (xs : List ℕ) (x : ℕ) → Never c xs → x ≢ c → Never c (xs ++ (x ∷ []))
@@ -49,8 +44,9 @@ pub follows-called : {modelOf : Peer → Model} {L : Type 0} {v : L → Model} {
     → {e : End L} {a b : Peer} {accepted delivered : Packets} {n : ℕ}
     → Follows modelOf v e a
     → Becomes modelOf d a b accepted delivered n
+    → Fits (d .after)
     → Follows modelOf v (called r answer later accepted delivered n e) b
-follows-called {later = later} {answer = answer} m {e} {a} {b} {accepted} {delivered} {n} f c =
+follows-called {later = later} {answer = answer} m {e} {a} {b} {accepted} {delivered} {n} f c fits =
     let p : copiedBy answer later ≡ map encode (c .sends) = copiedBy-packets m ∙ c .packets in
     record {
       model = m .returns .link ∙ c .model;
@@ -60,15 +56,14 @@ follows-called {later = later} {answer = answer} m {e} {a} {b} {accepted} {deliv
       sent = count-++ isData (e .copied) (copiedBy answer later) ∙ (λ i. f .sent i + (ap (count isData) p ∙ count-data (c .sends) (c .sound)) i) ∙ sym (c .sent);
       lost = ap (λ (t : ℕ). t + n) (f .lost) ∙ sym (c .loses);
       never = never-snoc badLink (e .answers) (answer .code) (f .never) (λ x. c .code (sym (ap (λ (t : Answer). t .code) (m .returns .answer)) ∙ x));
-      fits = c .fits;
+      fits = subst Fits (c .model) fits;
       sound = subst (All Sound) (sym (c .line)) (all-++ Sound (a .line) (c .sends) (f .sound) (c .sound));
     }
 
 -- a refusal
-pub becomes-same : {modelOf : Peer → Model} {a : Peer} (c : ℕ) → c ≢ badLink → Fits a → Becomes modelOf (refuse (modelOf a) c) a a [] [] 0
-becomes-same {a = a} c h fits = record {
+pub becomes-same : {modelOf : Peer → Model} {a : Peer} (c : ℕ) → c ≢ badLink → Becomes modelOf (refuse (modelOf a) c) a a [] [] 0
+becomes-same {a = a} c h = record {
   model = refl;
-  stays = λ _. refl;
   code = h;
   sends = [];
   packets = refl;
@@ -77,23 +72,19 @@ becomes-same {a = a} c h fits = record {
   delivers = sym (append-nil (a .receiver .delivered));
   sent = sym (add-zero (a .sender .sent));
   loses = sym (add-zero (a .sender .lost));
-  fits = fits;
   sound = tt;
 }
 
 -- an effect that sends nothing and changes the sending half
 pub becomes-sender : {modelOf : Peer → Model} {d : Effect} {a : Peer} (x : Sender) {n : ℕ} → d .after ≡ modelOf (withSender x a)
-    → (refuses (d .code) ≡ true → d .after ≡ modelOf a)
     → d .code ≢ badLink
     → d .packets ≡ []
     → x .accepted ≡ a .sender .accepted
     → x .sent ≡ a .sender .sent
     → x .lost ≡ a .sender .lost + n
-    → Fits (withSender x a)
     → Becomes modelOf d a (withSender x a) [] [] n
-becomes-sender {a = a} x model stays code packets accepted sent lost fits = record {
+becomes-sender {a = a} x model code packets accepted sent lost = record {
   model = model;
-  stays = stays;
   code = code;
   sends = [];
   packets = packets;
@@ -102,22 +93,18 @@ becomes-sender {a = a} x model stays code packets accepted sent lost fits = reco
   delivers = sym (append-nil (a .receiver .delivered));
   sent = sent ∙ sym (add-zero (a .sender .sent));
   loses = lost;
-  fits = fits;
   sound = tt;
 }
 
 -- one that answers by a DACK, the receiving half being y now
 pub becomes-answer : {modelOf : Peer → Model} (rules : Rules) {d : Effect} {a : Peer} (y : Receiver) {up : Packets} → d .after ≡ modelOf (answering rules y a)
-    → refuses (d .code) ≡ false
     → d .code ≢ badLink
     → d .packets ≡ dackPacket (rules .dackNumber (y .expected)) ∷ []
     → y .delivered ≡ a .receiver .delivered ++ up
-    → Fits (answering rules y a)
     → rules .dackNumber (y .expected) < modulus
     → Becomes modelOf d a (answering rules y a) [] up 0
-becomes-answer rules {a = a} y model passed code packets delivers fits sound = record {
+becomes-answer rules {a = a} y model code packets delivers sound = record {
   model = model;
-  stays = λ e. absurd (false≢true (sym passed ∙ e));
   code = code;
   sends = dackPdu (rules .dackNumber (y .expected)) ∷ [];
   packets = packets;
@@ -126,35 +113,5 @@ becomes-answer rules {a = a} y model passed code packets delivers fits sound = r
   delivers = delivers;
   sent = sym (add-zero (a .sender .sent));
   loses = sym (add-zero (a .sender .lost));
-  fits = fits;
   sound = (sound, tt);
 }
-
--- ---- what happens to an end that a link can hold leaves it such
-module _ (rules : Rules) (a : Peer) (f : Fits a) where
-  pub fits-accept : (p : Octets) → length (a .sender .queue) < slots → length p ≤ maxPayload → Fits (accept rules p a)
-  fits-accept p h k = record {
-    base = f .base;
-    expected = f .expected;
-    short = all-++ _ (a .sender .queue) (p ∷ []) (f .short) (k, tt);
-    few = omega (arith, length-append (a .sender .queue) (p ∷ []));
-  }
-
-  pub fits-sendAll : Fits (sendAll rules a)
-  fits-sendAll = record { base = f .base; expected = f .expected; short = f .short; few = f .few }
-
-  pub fits-takeData : (hit : Bool) (p : Octets) → Fits (takeData rules hit p a)
-  fits-takeData true p = record { base = f .base; expected = omega arith; short = f .short; few = f .few }
-  fits-takeData false p = record { base = f .base; expected = f .expected; short = f .short; few = f .few }
-
-module _ (a : Peer) (f : Fits a) where
-  pub fits-lostOne : Fits (withSender (lostOne (a .sender)) a)
-  fits-lostOne = record { base = f .base; expected = f .expected; short = f .short; few = f .few }
-
-  pub fits-freed : (n : ℕ) → Fits (withSender (freed n (a .sender)) a)
-  fits-freed n = record {
-    base = omega arith;
-    expected = f .expected;
-    short = short-drop n (a .sender .queue) (f .short);
-    few = omega (arith, length-drop n (a .sender .queue), f .few);
-  }

@@ -8,18 +8,15 @@ use mathlib.Core.Bool.{true, false, cond, _&&_, false≢true}
 use mathlib.Core.List.{List, [], _∷_, _++_}
 use lib.ListN.{length}
 use lib.Dec.{eqb}
-use Rattle.dlc_table.specs.declared.State.{State}
-use Rattle.dlc_table.specs.declared.State.the-variants.{Idle, Reset, Data}
 use Rattle.dlc_table.specs.Answers.{done, replyTooSmall, badLink, refuses}
-use Rattle.dlc_table.specs.Model.{Model, inState, fresh, opened}
+use Rattle.dlc_table.specs.Model.{Model, fresh, opened}
 use Rattle.dlc_table.specs.Events.{Effect, effect, cleared, startOf, timerOf, arrivalOf}
 use Rattle.dlc_answer.specs.declared.Answer.{Answer}
 use Rattle.dlc.specs.Limits.{slots, resetPacket, resetAckPacket}
-use Rattle.dlc.specs.View.{stateFits}
 use Rattle.dlc_answer.specs.Delivered.{deliveredPart}
 use Rattle.dlc.specs.Calls.{Meets, StartCall, TimerCall}
-use Rattle.dlc.proofs.Values.{linkOf, view-linkOf, fits-fresh as fresh-fits, fits-rebuilt}
 use Rattle.dlc_run.proofs.Copied.{copiedBy-packets}
+use Rattle.dlc_run.proofs.Existence.{Covers, reply, value-of}
 use Rattle.dlc_run.specs.Replies.{Octets, Packets, isData, isDack, Reply, copiedBy}
 use Rattle.window.specs.Sides.{left, right}
 use Rattle.window.specs.Events.{fresh as freshPeer}
@@ -29,11 +26,10 @@ use Rattle.dlc_pair.specs.Demand3.{Demand3}
 use Rattle.dlc_pair.specs.Opening.{openingEvents, Stands}
 use Rattle.dlc_pair.specs.Progress.{Enough}
 use Rattle.dlc_pair.proofs.Codec.{count-++}
-use Rattle.dlc_pair.proofs.Relation.{fits-fresh, Follows}
+use Rattle.dlc_pair.proofs.Relation.{Follows}
 use Rattle.dlc_pair.proofs.OneCall.{never-snoc}
-use Rattle.dlc_pair.proofs.Effects.{modelOf, resetting, startOf-fresh, timerOf-resetting, arrivalOf-reset, arrivalOf-resetAck, cleared-opened}
+use Rattle.dlc_pair.proofs.Effects.{modelOf, opened-fits, resetting, resetting-fits, startOf-fresh, timerOf-resetting, arrivalOf-reset, arrivalOf-resetAck, cleared-opened}
 use Rattle.dlc_pair.proofs.Demand3.{demand-three-from}
-use Rattle.dlc_pair.proofs.Existence.{Covers, reply}
 
 -- ---- an end on the way
 stands-fresh : {L : Type 0} {v : L → Model} (l : L) {m : Model} → v l ≡ m → Stands v (freshEnd l) m []
@@ -99,12 +95,6 @@ module _ {L : Type 0} {v : L → Model} {w : World L} {m m′ : Model} {ks : Pac
           → Stands v (arrived v l before w g .left) (d .after) (ks ++ d .packets) × Stands v (arrived v l before w g .right) m′ [])
           (sym h) stands-front
 
--- ---- a link in each state on the way: queue empty, numbers 0
-empty-value : {L : Type 0} {v : L → Model} → Covers v → (s : State) → stateFits s 0 true 0 0 ≡ true → (l : L) × (v l ≡ inState s fresh)
-empty-value covers s h =
-    let l = covers (linkOf (inState s fresh)) in
-    (l .0, l .1 ∙ view-linkOf (inState s fresh) (fits-rebuilt fresh fresh-fits s [] 0 0 (omega arith) tt (omega arith) (omega arith) h))
-
 -- a call whose effect is known may give back a link of the model after it
 reply-known : {L : Type 0} {v : L → Model} (d : Effect) {d′ : Effect} → d ≡ d′ → (l l″ : L) (before : Octets) → v l″ ≡ d′ .after → refuses (d′ .code) ≡ false
     → Reply (Meets v d l before)
@@ -159,8 +149,8 @@ module _ {L : Type 0} (v : L → Model) (l l′ : L) (e : v l ≡ fresh) (e′ :
   -- it can be done, where the type of links has values
   pub opening-exists : Covers v → History v (openingEvents b₁ b₂ b₃ b₄) (initial l l′)
   opening-exists covers =
-      let resets = empty-value covers Reset refl in
-      let opens = empty-value covers Data refl in
+      let resets = value-of covers resetting resetting-fits in
+      let opens = value-of covers opened opened-fits in
       let g₁ : Reply (StartCall v l b₁) = reply-known _ start-effect l (resets .0) b₁ (resets .1) refl in
       let g₂ : Reply (TimerCall v (g₁ .link) b₂) = reply-known _ (timer-effect g₁) (g₁ .link) (resets .0) b₂ (resets .1) refl in
       let w₂ = sentReset g₁ g₂ in
@@ -185,7 +175,7 @@ follows-opened s = record {
   sent = s .sent;
   lost = s .lost;
   never = s .never;
-  fits = fits-fresh;
+  fits = opened-fits;
   sound = tt;
 }
 
@@ -193,7 +183,3 @@ pub demand-three-opened : {L : Type 0} {v : L → Model} {w : World L} → Stand
     → (es : List Event) (h : History v es w)
     → Demand3 v es w h
 demand-three-opened s s′ es h = demand-three-from (record { left = follows-opened s; right = follows-opened s′ }) es h
-
--- and fresh links are to be had
-pub fresh-value : {L : Type 0} {v : L → Model} → Covers v → (l : L) × (v l ≡ fresh)
-fresh-value covers = empty-value covers Idle refl

@@ -1,14 +1,12 @@
 -- A world of octets and link values against the packet system: what it means that one follows the other. Assumes nothing.
 --
 -- modelOf gives the model of a link that stands where an end of the packet system does. All that is known of it is in Simulates.
-use Prim.Native.Nat.{ℕ, _+_, _≤_, _<_}
-use native.Mathlib.Omega.{arith}
-use mathlib.Core.Path.{_≡_, refl, sym, ap, _∙_}
+use Prim.Native.Nat.{ℕ, _+_}
+use mathlib.Core.Path.{_≡_, refl, sym, ap, subst, _∙_}
 use mathlib.Core.List.{List, map}
-use lib.ListN.{length}
 use Rattle.dlc_table.specs.Answers.{badLink}
 use Rattle.dlc_table.specs.Model.{Model}
-use Rattle.dlc.specs.Limits.{modulus, slots}
+use Rattle.dlc.proofs.Values.{Fits}
 use Rattle.dlc_run.specs.Replies.{Packets, isData}
 use Rattle.window.specs.Sides.{Both, mirror}
 use Rattle.window.specs.Packets.{Packet}
@@ -18,19 +16,9 @@ use Rattle.window.proofs.InFlight.{All}
 use Rattle.dlc_pair.specs.World.{count, End, World, freshEnd, initial}
 use Rattle.dlc_pair.specs.History.{relined}
 use Rattle.dlc_pair.specs.Demand3.{Never}
-use Rattle.dlc_pair.proofs.Codec.{encode, Sound, Short}
+use Rattle.dlc_pair.proofs.Codec.{encode, Sound}
 
--- an end of the packet system that a link value can hold
-pub record Fits (a : Peer) : Type 0 where
-  pub base : a .sender .base < modulus
-  pub expected : a .receiver .expected < modulus
-  pub short : Short (a .sender .queue)
-  pub few : length (a .sender .queue) ≤ slots
-
-pub fits-fresh : Fits fresh
-fits-fresh = record { base = omega arith; expected = omega arith; short = tt; few = omega arith }
-
--- an end follows one of the packet system
+-- an end follows one of the packet system, of which a link can hold the model
 pub record Follows (modelOf : Peer → Model) {L : Type 0} (v : L → Model) (e : End L) (a : Peer) : Type 0 where
   pub model : v (e .link) ≡ modelOf a
   pub line : e .line ≡ map encode (a .line)
@@ -39,7 +27,7 @@ pub record Follows (modelOf : Peer → Model) {L : Type 0} (v : L → Model) (e 
   pub sent : count isData (e .copied) ≡ a .sender .sent
   pub lost : e .lost ≡ a .sender .lost
   pub never : Never badLink (e .answers)
-  pub fits : Fits a
+  pub fits : Fits (modelOf a)
   pub sound : All Sound (a .line)
 
 -- both do
@@ -52,8 +40,8 @@ pub follow-mirror : {modelOf : Peer → Model} {L : Type 0} {v : L → Model} {w
 follow-mirror f = record { left = f .right; right = f .left }
 
 -- ---- the start
-follows-fresh : (modelOf : Peer → Model) {L : Type 0} {v : L → Model} (l : L) → v l ≡ modelOf fresh → Follows modelOf v (freshEnd l) fresh
-follows-fresh modelOf l e = record {
+follows-fresh : {modelOf : Peer → Model} {L : Type 0} {v : L → Model} → Fits (modelOf fresh) → (l : L) → v l ≡ modelOf fresh → Follows modelOf v (freshEnd l) fresh
+follows-fresh fits l e = record {
   model = e;
   line = refl;
   accepted = refl;
@@ -61,13 +49,13 @@ follows-fresh modelOf l e = record {
   sent = refl;
   lost = refl;
   never = tt;
-  fits = fits-fresh;
+  fits = fits;
   sound = tt;
 }
 
-pub follow-initial : (modelOf : Peer → Model) {L : Type 0} {v : L → Model} (l l′ : L) → v l ≡ modelOf fresh → v l′ ≡ modelOf fresh
+pub follow-initial : {modelOf : Peer → Model} {L : Type 0} {v : L → Model} → Fits (modelOf fresh) → (l l′ : L) → v l ≡ modelOf fresh → v l′ ≡ modelOf fresh
     → BothFollow modelOf v (initial l l′) packetStart
-follow-initial modelOf l l′ e e′ = record { left = follows-fresh modelOf l e; right = follows-fresh modelOf l′ e′ }
+follow-initial fits l l′ e e′ = record { left = follows-fresh fits l e; right = follows-fresh fits l′ e′ }
 
 -- ---- an end with another line, and m packets lost
 abbrev pub losing : ℕ → Sender → Sender
@@ -91,6 +79,6 @@ follows-relined f l ks n m same el sound em = record {
   sent = f .sent;
   lost = ap (λ (t : ℕ). t + n) (f .lost) ∙ sym em;
   never = f .never;
-  fits = record { base = f .fits .base; expected = f .fits .expected; short = f .fits .short; few = f .fits .few };
+  fits = subst Fits (sym same) (f .fits);
   sound = sound;
 }

@@ -12,17 +12,17 @@ use lib.Dec.{ltb, eqb}
 use Rattle.dlc_table.specs.Answers.{done, replyTooSmall}
 use Rattle.dlc_table.specs.Model.{Model}
 use Rattle.dlc_table.specs.Events.{Effect, startOf, timerOf, payloadOf, arrivalOf}
-use Rattle.dlc.specs.declared.Link.{Link}
 use Rattle.dlc.specs.Limits.{slots, maxPayload, replySize}
-use Rattle.dlc.specs.View.{view}
 use Rattle.dlc_answer.specs.Delivered.{deliveredPart}
 use Rattle.dlc.specs.Calls.{answerOf}
+use Rattle.dlc.proofs.Values.{Fits}
 use Rattle.dlc_run.specs.Replies.{Octets, Packets, acceptedBy}
 use Rattle.window.specs.Packets.{Packet, dataPdu, dackPdu}
 use Rattle.window.specs.Ends.{Rules, End as Peer, lostOne, applyDack, withSender, accept, sendAll, takeData}
+use Rattle.window.specs.Events.{fresh}
 use Rattle.dlc_pair.specs.World.{one}
 use Rattle.dlc_pair.proofs.Codec.{encode, Sound, dataBit, dackBit}
-use Rattle.dlc_pair.proofs.Relation.{Fits, relinedPeer}
+use Rattle.dlc_pair.proofs.Relation.{relinedPeer}
 use Rattle.dlc_pair.proofs.OneCall.{Becomes}
 
 -- a reply buffer that every call refuses
@@ -64,17 +64,18 @@ Arrival modelOf k d a b = Becomes modelOf d a b [] (deliveredWhen k d) (lostWhen
 
 pub record Simulates (rules : Rules) (modelOf : Peer → Model) : Type 0 where
   pub window : rules .window ≡ slots
-  -- a model has the end's queue; the line, and how much was lost, are no part of it; and a link can hold it
+  -- a link can hold the model of a fresh end
+  pub holds : Fits (modelOf fresh)
+  -- a model has the end's queue; the line, and how much was lost, are no part of it
   pub queue : (a : Peer) → modelOf a .queue ≡ a .sender .queue
   pub relined : (ks : List Packet) (n : ℕ) (a : Peer) → modelOf (relinedPeer ks n a) ≡ modelOf a
-  pub value : (a : Peer) → Fits a → (l : Link) × (view l ≡ modelOf a)
   -- the calls
-  pub start : (a : Peer) → Fits a → (before : Octets) → Bare modelOf (startOf slots (modelOf a) (length before)) a a
-  pub timer : (a : Peer) → Fits a → (before : Octets)
+  pub start : (a : Peer) (before : Octets) → Bare modelOf (startOf slots (modelOf a) (length before)) a a
+  pub timer : (a : Peer) → Fits (modelOf a) → (before : Octets)
       → Bare modelOf (timerOf slots (modelOf a) (length before)) a (timedOut rules (not (tooShort before)) a)
-  pub payload : (a : Peer) → Fits a → (p before : Octets)
+  pub payload : (a : Peer) (p before : Octets)
       → Offer modelOf p (payloadOf slots (modelOf a) p (length before)) a (offered rules (passes p before) p a)
-  pub arrival : (a : Peer) → Fits a → (k : Packet) → Sound k → (before : Octets)
+  pub arrival : (a : Peer) → Fits (modelOf a) → (k : Packet) → Sound k → (before : Octets)
       → Arrival modelOf k (arrivalOf slots (modelOf a) (encode k) (length before)) a (reached rules (not (tooShort before)) k a)
   -- 26 is what a short buffer is answered, and nothing else
   pub refused : (a : Peer) (k : Packet) → Sound k → (before : Octets)

@@ -9,12 +9,14 @@ use lib.ListN.{length, getElem?}
 use lib.Dec.{ltb, eqb}
 use Rattle.dlc_table.specs.Answers.{done}
 use Rattle.dlc_table.specs.Model.{Model}
-use Rattle.dlc_table.specs.Events.{Effect, startOf, timerOf, payloadOf, arrivalOf}
+use Rattle.dlc_table.specs.Events.{Effect, arrivalOf}
+use Rattle.dlc_table.specs.Runs.{Event as Call, payload as payloadCall, timer as timerCall, start as startCall, arrival as arrivalCall, effectOf}
 use Rattle.dlc_answer.specs.declared.Answer.{Answer}
 use Rattle.dlc.specs.Limits.{slots}
 use Rattle.dlc_answer.specs.Delivered.{deliveredPart}
 use Rattle.dlc.specs.Calls.{answerOf, Meets}
 use Rattle.dlc_run.specs.Replies.{Octets, Packets, isData, isDack, acceptedBy, deliveredBy}
+use Rattle.dlc_run.proofs.Fitting.{effect-fits}
 use Rattle.window.specs.Sides.{Both, eraseAt}
 use Rattle.window.specs.Packets.{Packet, dataPdu, dackPdu}
 use Rattle.window.specs.Ends.{Rules, End as Peer, accept, sendAll}
@@ -73,20 +75,21 @@ sound-at (suc n) (j ∷ ks) k h e = sound-at n ks k (h .1) e
 module _ {rules : Rules} {modelOf : Peer → Model} (table : Simulates rules modelOf) where
   module _ {L : Type 0} {v : L → Model} {w : World L} {s : Both Peer} (f : BothFollow modelOf v w s) where
     module _ {before later : Octets} {r : L} {answer : Answer} where
-      -- the contract of an effect at the left end, where the model of its link is known
-      met : (e : Model → Effect) → Meets v (e (v (w .left .link))) (w .left .link) before later r answer
-          → Meets v (e (modelOf (s .left))) (w .left .link) before later r answer
-      met e m = subst (λ (d : Effect). Meets v d (w .left .link) before later r answer) (ap e (f .left .model)) m
+      -- the contract of a call at the left end, where the model of its link is known
+      met : (e : Call) → Meets v (effectOf slots e (v (w .left .link))) (w .left .link) before later r answer
+          → Meets v (effectOf slots e (modelOf (s .left))) (w .left .link) before later r answer
+      met e m = subst (λ (d : Effect). Meets v d (w .left .link) before later r answer) (ap (effectOf slots e) (f .left .model)) m
 
       -- ---- a call that brings no packet: the left end comes to b, and accepts what its answer says
-      call-follows : (e : Model → Effect) (accepted : Answer → Packets) → Meets v (e (v (w .left .link))) (w .left .link) before later r answer → {b : Peer}
-          → Becomes modelOf (e (modelOf (s .left))) (s .left) b (accepted (answerOf (e (modelOf (s .left))))) [] 0
+      call-follows : (e : Call) (accepted : Answer → Packets) → Meets v (effectOf slots e (v (w .left .link))) (w .left .link) before later r answer → {b : Peer}
+          → Becomes modelOf (effectOf slots e (modelOf (s .left))) (s .left) b (accepted (answerOf (effectOf slots e (modelOf (s .left))))) [] 0
           → BothFollow modelOf v (record { left = called r answer later (accepted answer) [] 0 (w .left); right = w .right }) (record { left = b; right = s .right })
       call-follows e accepted m {b} c =
-          let d = e (modelOf (s .left)) in
+          let d = effectOf slots e (modelOf (s .left)) in
           let m′ = met e m in
           record {
-            left = follows-called m′ (f .left) (subst (λ (t : Answer). Becomes modelOf d (s .left) b (accepted t) [] 0) (sym (m′ .returns .answer)) c);
+            left = follows-called m′ (f .left) (subst (λ (t : Answer). Becomes modelOf d (s .left) b (accepted t) [] 0) (sym (m′ .returns .answer)) c)
+                (effect-fits e (modelOf (s .left)) (f .left .fits));
             right = f .right;
           }
 
@@ -96,7 +99,7 @@ module _ {rules : Rules} {modelOf : Peer → Model} (table : Simulates rules mod
     front-follows before [] h g = f
     front-follows before (k ∷ ks) h g =
         let d : Effect = arrivalOf slots (modelOf (s .left)) (encode k) (length before) in
-        let m : Meets v d (w .left .link) before (g .later) (g .link) (g .answer) = met (λ (m : Model). arrivalOf slots m (encode k) (length before)) (g .meets) in
+        let m : Meets v d (w .left .link) before (g .later) (g .link) (g .answer) = met (arrivalCall (encode k) before) (g .meets) in
         let a : g .answer ≡ answerOf d = m .returns .answer in
         let up : deliveredBy (encode k) (g .answer) ≡ deliveredWhen k d =
         ap (deliveredBy (encode k)) a
@@ -112,7 +115,8 @@ module _ {rules : Rules} {modelOf : Peer → Model} (table : Simulates rules mod
         (record {
           left = follows-called m (f .left)
               (subst (λ (t : Packets). Becomes modelOf d (s .left) b [] t (lostBy (isDack (encode k)) (g .answer))) (sym up)
-              (subst (Becomes modelOf d (s .left) b [] (deliveredWhen k d)) (sym dack) c));
+              (subst (Becomes modelOf d (s .left) b [] (deliveredWhen k d)) (sym dack) c))
+              (effect-fits (arrivalCall (encode k) before) (modelOf (s .left)) (f .left .fits));
           right = follows-relined (f .right) (map encode ks) ks _ (cond (dataBit k && tooShort before) (suc n) n) (table .relined ks _ (s .right)) refl (h .1)
               (one-more (dataBit k && tooShort before) n ∙ ap (λ (t : ℕ). n + t) (sym lost));
         })
@@ -145,12 +149,12 @@ module _ {rules : Rules} {modelOf : Peer → Model} (table : Simulates rules mod
       → BothFollow modelOf v (after v a w g) (step rules (actOf a) s)
   step-follows {v = v} (payload p before) {w} {s} f g =
       subst (BothFollow modelOf v (after v (payload p before) w g)) (sym (step-offered rules (passes p before) p s))
-      (call-follows f (λ (m : Model). payloadOf slots m p (length before)) (acceptedBy p) (g .meets) (table .payload (s .left) (f .left .fits) p before))
+      (call-follows f (payloadCall p before) (acceptedBy p) (g .meets) (table .payload (s .left) p before))
   step-follows {v = v} (timer before) {w} {s} f g =
       subst (BothFollow modelOf v (after v (timer before) w g)) (sym (step-timedOut rules (not (tooShort before)) s))
-      (call-follows f (λ (m : Model). timerOf slots m (length before)) (λ _. []) (g .meets) (table .timer (s .left) (f .left .fits) before))
+      (call-follows f (timerCall before) (λ _. []) (g .meets) (table .timer (s .left) (f .left .fits) before))
   step-follows (start before) {w} {s} f g =
-      call-follows f (λ (m : Model). startOf slots m (length before)) (λ _. []) (g .meets) (table .start (s .left) (f .left .fits) before)
+      call-follows f (startCall before) (λ _. []) (g .meets) (table .start (s .left) before)
   step-follows {v = v} (arrival before) {w} {s} f g = at-line (w .right .line) (f .right .line) g
     where
       at-line : (l : Packets) → l ≡ map encode (s .right .line) → (g : GivenFront v l (w .left) before)

@@ -1,37 +1,40 @@
 -- What the theorems about two ends say of this link, beside demand 3: every list of events has a history, so that demand 3 is not about nothing;
--- and what waits is delivered, where nothing is lost. Each is the theorem of whatever the step table simulates (Existence, Progress), at the rules of
--- this link and from open ends. Assumes nothing.
+-- and what waits is delivered, where nothing is lost (the theorem of whatever the step table simulates, at the rules of this link). Each from open
+-- ends. Assumes nothing.
 use Prim.Native.Nat.{ℕ, _≤_}
-use mathlib.Core.Path.{_≡_}
+use mathlib.Core.Path.{_≡_, sym, subst}
 use mathlib.Core.List.{List, []}
 use lib.ListN.{length}
 use Rattle.dlc_table.specs.Model.{Model, opened}
 use Rattle.dlc.specs.Limits.{slots}
+use Rattle.dlc.proofs.Values.{Fits}
 use Rattle.dlc_run.specs.Replies.{Octets}
+use Rattle.dlc_run.proofs.Existence.{Covers, value-of}
 use Rattle.window.specs.Sides.{Side, endAt}
-use Rattle.window.specs.Events.{fresh}
 use Rattle.dlc_pair.specs.World.{initial}
 use Rattle.dlc_pair.specs.History.{Event, History, final}
 use Rattle.dlc_pair.specs.Progress.{Enough, AllEnough, exchange, Settled, recovery, Recovered}
-use Rattle.dlc_pair.proofs.Relation.{fits-fresh, follow-initial}
-use Rattle.dlc_pair.proofs.Effects.{modelOf, lawful, simulates}
-use Rattle.dlc_pair.proofs.Runs.{run-follows}
-use Rattle.dlc_pair.proofs.Existence.{Covers, value-of, history-of}
+use Rattle.dlc_pair.proofs.Relation.{follow-initial}
+use Rattle.dlc_pair.proofs.Effects.{opened-fits, lawful, simulates}
+use Rattle.dlc_pair.proofs.Existence.{BothFit, run-fit, history-of}
 use Rattle.dlc_pair.proofs.Progress.{progress-from, recovers-from}
 
 module _ {L : Type 0} {v : L → Model} (covers : Covers v) where
   -- there is a link that stands open
   pub opened-value : (l : L) × (v l ≡ opened)
-  opened-value = value-of simulates covers fresh fits-fresh
+  opened-value = value-of covers opened opened-fits
+
+  open-ends : (l l′ : L) → v l ≡ opened → v l′ ≡ opened → BothFit v (initial l l′)
+  open-ends l l′ e e′ = record { left = subst Fits (sym e) opened-fits; right = subst Fits (sym e′) opened-fits }
 
   -- every list of events has a history
   pub history-exists : (l l′ : L) → v l ≡ opened → v l′ ≡ opened → (es : List Event) → History v es (initial l l′)
-  history-exists l l′ e e′ es = history-of simulates covers es (follow-initial modelOf l l′ e e′)
+  history-exists l l′ e e′ es = history-of covers es (open-ends l l′ e e′)
 
   -- and whatever the calls gave back so far, events can go on
   pub history-goes-on : (l l′ : L) → v l ≡ opened → v l′ ≡ opened → (es more : List Event) (h : History v es (initial l l′))
       → History v more (final v es (initial l l′) h)
-  history-goes-on l l′ e e′ es more h = history-of simulates covers more (run-follows simulates es (follow-initial modelOf l l′ e e′) h)
+  history-goes-on l l′ e e′ es more h = history-of covers more (run-fit es (open-ends l l′ e e′) h)
 
 -- once both lines are empty: one timer call, at least as many arrivals at the other end as payloads are queued, and at least as many at this
 -- end; every reply buffer is large enough and nothing is lost
@@ -46,7 +49,7 @@ pub progress : {L : Type 0} (v : L → Model) (l l′ : L) → v l ≡ opened �
     → length bs ≤ length cs
     → (more : History v (exchange d b bs cs) (final v es (initial l l′) h))
     → Settled v d (final v es (initial l l′) h) (final v (exchange d b bs cs) (final v es (initial l l′) h) more)
-progress v l l′ e e′ es h = progress-from simulates lawful (follow-initial modelOf l l′ e e′) es h
+progress v l l′ e e′ es h = progress-from simulates lawful (follow-initial opened-fits l l′ e e′) es h
 
 -- whatever is on the lines and in the queues: arrivals of what is on the lines, and an exchange of each end; every reply buffer is large enough
 -- and nothing is lost. n is at least the packets on either line, and the slots of a queue
@@ -58,4 +61,4 @@ pub recovers : {L : Type 0} (v : L → Model) (l l′ : L) → v l ≡ opened �
     → slots ≤ n
     → (more : History v (recovery b n) (final v es (initial l l′) h))
     → Recovered v (final v es (initial l l′) h) (final v (recovery b n) (final v es (initial l l′) h) more)
-recovers v l l′ e e′ es h = recovers-from simulates lawful (follow-initial modelOf l l′ e e′) es h
+recovers v l l′ e e′ es h = recovers-from simulates lawful (follow-initial opened-fits l l′ e e′) es h

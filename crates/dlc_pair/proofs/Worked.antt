@@ -30,10 +30,10 @@ loss-nothing v l l′ n = refl
 module _ {rules : Rules} {modelOf : Peer → Model} (table : Simulates rules modelOf) {L : Type 0} (v : L → Model) (l l′ : L)
     (e : v l ≡ modelOf fresh) (e′ : v l′ ≡ modelOf fresh) (es : List Event) (h : History v es (initial l l′)) where
   followed : BothFollow modelOf v (final v es (initial l l′) h) (runOf rules es packetStart)
-  followed = run-follows table es (follow-initial modelOf l l′ e e′) h
+  followed = run-follows table es (follow-initial (table .holds) l l′ e e′) h
 
   waited : (d : Side) → T (timerWaits rules d (map eventOf es) packetStart) → TimerWaits v d es (initial l l′) h
-  waited d t = timerWaits-back table d es (follow-initial modelOf l l′ e e′) h (timerWaits-true rules d (map eventOf es) packetStart t)
+  waited d t = timerWaits-back table d es (follow-initial (table .holds) l l′ e e′) h (timerWaits-true rules d (map eventOf es) packetStart t)
 
 -- ---- events
 abbrev buffer : Octets

@@ -17,7 +17,8 @@ use Rattle.dlc_queue.specs.declared.Queue.{Queue}
 use Rattle.dlc_queue.specs.Queue.{slots, replySize, octetsOf, allShort, payloads, formed}
 use Rattle.dlc_queue.specs.Send.{sending, Written, Sent}
 use Rattle.dlc_queue.proofs.Lists.{drop-take-cons, map-drop}
-use Rattle.dlc_queue.proofs.Short.{none, both}
+use Rattle.common.proofs.Bools.{and-both}
+use Rattle.dlc_queue.proofs.Short.{none}
 
 -- the loop's invariant: x is the number of slot i, at the index of its packet, and what is left gives the whole
 pub record Sending (ps : List (List ℕ)) (base : ℕ) (out₀ out lengths : List ℕ) (x at i : ℕ) : Type 0 where
@@ -83,7 +84,7 @@ length-take-≤ (suc n) (x ∷ l) = let h = length-take-≤ n l in omega arith
 pub short-payloads : (ps : List Payload) → allShort ps ≡ true → Short (map octetsOf ps)
 short-payloads [] e = tt
 short-payloads (p ∷ ps) e =
-    let b = both (leb (p .len) maxPayload) (allShort ps) e in
+    let b = and-both (leb (p .len) maxPayload) (allShort ps) e in
     (omega (arith, length-take-≤ (p .len) (p .octets), leb-true (p .len) maxPayload (b .0)), short-payloads ps (b .1))
 
 -- send, case by case: nothing is written where the queue or the number is none, or the buffer too short

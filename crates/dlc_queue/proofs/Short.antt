@@ -1,11 +1,12 @@
 -- Laws of `allShort`: no payload is too long. Assumes nothing.
 use Prim.Native.Nat.{ℕ, zero, suc, _+_, _<_, _≤_}
-use mathlib.Core.Path.{_≡_, refl, ap}
+use mathlib.Core.Path.{_≡_, ap}
 use mathlib.Core.Bool.{Bool, true, false, _&&_}
 use mathlib.Core.List.{List, [], _∷_, _++_}
 use lib.Dec.{leb, lit≤}
 use lib.ListN.{length, getD, take, drop}
 use borrow.Author.Tests.{le-leb, lt-leb, leb-true}
+use Rattle.common.proofs.Bools.{and-both}
 use Rattle.dlc_packet.specs.Packet.{maxPayload}
 use Rattle.dlc_queue.specs.declared.Payload.{Payload}
 use Rattle.dlc_queue.specs.Queue.{allShort}
@@ -15,16 +16,10 @@ use Rattle.dlc_queue.proofs.Lists.{drop-take-cons}
 abbrev pub none : Payload
 none = record { len = 0; octets = [] }
 
--- both of two tests
-pub both : (a b : Bool) → a && b ≡ true → (a ≡ true) × (b ≡ true)
-both true b e = (refl, e)
-both false true e = (e, refl)
-both false false e = (e, e)
-
 pub short-at : (l : List Payload) (i : ℕ) → allShort l ≡ true → getD l i none .len ≤ maxPayload
 short-at [] i e = lit≤ tt
-short-at (p ∷ ps) zero e = leb-true (p .len) maxPayload (both (leb (p .len) maxPayload) (allShort ps) e .0)
-short-at (p ∷ ps) (suc i) e = short-at ps i (both (leb (p .len) maxPayload) (allShort ps) e .1)
+short-at (p ∷ ps) zero e = leb-true (p .len) maxPayload (and-both (leb (p .len) maxPayload) (allShort ps) e .0)
+short-at (p ∷ ps) (suc i) e = short-at ps i (and-both (leb (p .len) maxPayload) (allShort ps) e .1)
 
 -- a search for one that is too long among the first n: it is here, or it is further on
 module _ (q : List Payload) (n i : ℕ) (h : n ≤ length q) (k : i < n) where
@@ -42,4 +37,4 @@ short-snoc (p ∷ ps) x h = ap (λ (b : Bool). leb (p .len) maxPayload && b) (sh
 pub short-drop : (k : ℕ) (ps : List Payload) → allShort ps ≡ true → allShort (drop k ps) ≡ true
 short-drop zero ps e = e
 short-drop (suc k) [] e = e
-short-drop (suc k) (p ∷ ps) e = short-drop k ps (both (leb (p .len) maxPayload) (allShort ps) e .1)
+short-drop (suc k) (p ∷ ps) e = short-drop k ps (and-both (leb (p .len) maxPayload) (allShort ps) e .1)

@@ -11,6 +11,7 @@ use lib.Dec.{leb}
 use mir.Val.{Val}
 use denote.Laws.{Is}
 use borrow.Author.Tests.{le-leb, lt-leb, lt-ltb, le-ltb, leb-true, eqb-true}
+use Rattle.common.proofs.Bools.{and-both}
 use Rattle.dlc_packet.specs.Packet.{maxPayload}
 use Rattle.dlc_queue.specs.declared.Payload.{Payload}
 use Rattle.dlc_queue.specs.declared.Queue.{Queue}
@@ -18,7 +19,7 @@ use Rattle.dlc_queue.specs.Queue.{slots, octetsOf, used, payloads, held,
 use Rattle.dlc_queue.proofs.Lists.{map-drop, map-snoc}
 use Rattle.dlc_queue.proofs.Queue as Q
 use Rattle.dlc_queue.proofs.Shape.{slots-long}
-use Rattle.dlc_queue.proofs.Short.{both, short-snoc, short-drop}
+use Rattle.dlc_queue.proofs.Short.{short-snoc, short-drop}
 
 -- a test has one answer
 differ : {b : Bool} → b ≡ false → b ≡ true → ⊥
@@ -27,11 +28,11 @@ differ e t = false≢true (sym e ∙ t)
 module _ (q : Queue) where
   pub formed-count : formed q ≡ true → q .count ≤ slots
   unfolding formed
-  formed-count e = leb-true _ _ (both (leb (q .count) slots) (allShort (used q)) e .0)
+  formed-count e = leb-true _ _ (and-both (leb (q .count) slots) (allShort (used q)) e .0)
 
   pub formed-short : formed q ≡ true → allShort (used q) ≡ true
   unfolding formed
-  formed-short e = both (leb (q .count) slots) (allShort (used q)) e .1
+  formed-short e = and-both (leb (q .count) slots) (allShort (used q)) e .1
 
   pub is-formed : q .count ≤ slots → allShort (used q) ≡ true → formed q ≡ true
   unfolding formed

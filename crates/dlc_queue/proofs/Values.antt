@@ -4,7 +4,7 @@ use native.Mathlib.Omega.{arith}
 use mathlib.Core.Path.{_≡_, refl, ap, _∙_}
 use mathlib.Core.Bool.{true, _&&_}
 use mathlib.Core.List.{List, [], _∷_, _++_, map}
-use lib.ListN.{length, replicate, length-map, length-append, length-replicate}
+use lib.ListN.{length, drop, replicate, length-map, length-append, length-replicate}
 use lib.Seq.{take-append-seam, take-at}
 use lib.Dec.{eqb}
 use borrow.Author.Tests.{le-leb}
@@ -25,6 +25,16 @@ queueOf ps = record { count = length ps; slots = map slotOf ps ++ replicate (slo
 abbrev pub Short : List (List ℕ) → Type 0
 Short [] = Unit {0}
 Short (p ∷ ps) = (length p ≤ maxPayload) × Short ps
+
+-- one more, and some fewer
+pub short-queued : (ps : List (List ℕ)) (p : List ℕ) → Short ps → length p ≤ maxPayload → Short (ps ++ (p ∷ []))
+short-queued [] p s h = (h, tt)
+short-queued (x ∷ ps) p s h = (s .0, short-queued ps p (s .1) h)
+
+pub short-dropped : (n : ℕ) (ps : List (List ℕ)) → Short ps → Short (drop n ps)
+short-dropped zero ps s = s
+short-dropped (suc n) [] s = s
+short-dropped (suc n) (p ∷ ps) s = short-dropped n ps (s .1)
 
 used-queueOf : (ps : List (List ℕ)) → used (queueOf ps) ≡ map slotOf ps
 used-queueOf ps = take-at (map slotOf ps) (replicate (slots - length ps) (slotOf [])) (length ps) (length-map ps slotOf)

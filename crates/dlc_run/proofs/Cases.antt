@@ -12,7 +12,7 @@ use Rattle.dlc_table.specs.Events.{refuse, startOf, timerOf, payloadOf, arrival
 use Rattle.dlc_table.specs.Runs.{Event, start, timer, payload, arrival}
 use Rattle.dlc_answer.specs.declared.Answer.{Answer}
 use Rattle.dlc_run.specs.Replies.{Octets, Packets, isData, isDack, packetsIn, Reply, acceptedBy, deliveredBy}
-use Rattle.dlc_run.specs.Runs.{Contract, History, final, Told, bufferOf, toldBy, toldOf, tableTells, NeverTold}
+use Rattle.dlc_run.specs.Runs.{Contract, History, final, Observed, bufferOf, observedBy, observedOf, tableTrace, NeverAnswered}
 
 -- ---- packets
 -- 4x is DATA whatever x is, 5x is DACK, RESET is neither
@@ -61,35 +61,35 @@ module _ {L : Type 0} (v : L → Model) (l : L) where
   final-two e f h = refl
 
   module _ (x : ℕ) (b : Octets) where
-    -- an arrival that delivers: the payload is told without its control octet, an empty one too
-    pub told-payload : (p : Octets) (g : Reply (Contract v (arrival (dataPacket x p) b) l)) → g .answer .delivered ≡ true
-        → toldBy v (arrival (dataPacket x p) b) l g .delivered ≡ p ∷ []
-    told-payload p g e = rw e
+    -- an arrival that delivers: the payload is observed without its control octet, an empty one too
+    pub observed-payload : (p : Octets) (g : Reply (Contract v (arrival (dataPacket x p) b) l)) → g .answer .delivered ≡ true
+        → observedBy v (arrival (dataPacket x p) b) l g .delivered ≡ p ∷ []
+    observed-payload p g e = rw e
 
-    -- one that does not: none is told
-    pub told-none : (p : Octets) (g : Reply (Contract v (arrival (dataPacket x p) b) l)) → g .answer .delivered ≡ false
-        → toldBy v (arrival (dataPacket x p) b) l g .delivered ≡ []
-    told-none p g e = rw e
+    -- one that does not: none is observed
+    pub observed-none : (p : Octets) (g : Reply (Contract v (arrival (dataPacket x p) b) l)) → g .answer .delivered ≡ false
+        → observedBy v (arrival (dataPacket x p) b) l g .delivered ≡ []
+    observed-none p g e = rw e
 
-  -- with nothing sent no packet is told, whatever stands in the buffer
-  pub told-nothing-sent : (e : Event) (g : Reply (Contract v e l)) → g .answer .sent ≡ 0 → toldBy v e l g .packets ≡ []
-  told-nothing-sent e g z = rw z
+  -- with nothing sent no packet is observed, whatever stands in the buffer
+  pub observed-nothing-sent : (e : Event) (g : Reply (Contract v e l)) → g .answer .sent ≡ 0 → observedBy v e l g .packets ≡ []
+  observed-nothing-sent e g z = rw z
 
--- a list where a number was told is none where it never was
-pub told-once : (t : Told) → NeverTold (t .code) (t ∷ []) → ⊥
-told-once t n = n .0 refl
+-- a list where a number was answered is none where it never was
+pub answered-once : (t : Observed) → NeverAnswered (t .code) (t ∷ []) → ⊥
+answered-once t n = n .0 refl
 
--- ---- what the table tells
+-- ---- what the table says
 -- of a refusal: its number, no packet, the buffer and the link as they were
-pub tells-refusal : (e : Event) (m : Model) (c : ℕ) → toldOf e (refuse m c)
+pub table-refusal : (e : Event) (m : Model) (c : ℕ) → observedOf e (refuse m c)
     ≡ record { code = c; upperReset = false; packets = []; reply = bufferOf e; delivered = []; after = m }
 unfolding flatten
-tells-refusal e m c = refl
+table-refusal e m c = refl
 
 -- of an arrival that delivers: the payload behind the control octet
-pub tells-payload : (x : ℕ) (p b : Octets) (m : Model)
-    → toldOf (arrival (dataPacket x p) b) (record { code = done; upperReset = false; delivered = true; packets = []; after = m }) .delivered ≡ p ∷ []
-tells-payload x p b m = refl
+pub table-payload : (x : ℕ) (p b : Octets) (m : Model)
+    → observedOf (arrival (dataPacket x p) b) (record { code = done; upperReset = false; delivered = true; packets = []; after = m }) .delivered ≡ p ∷ []
+table-payload x p b m = refl
 
 -- a queue of one place, and a reply buffer that is just long enough for it
 abbrev places : ℕ
@@ -122,8 +122,8 @@ events =
     ∷ []
 
 -- a call that tells the upper layer no reset
-abbrev tells : ℕ → Packets → Octets → Packets → Model → Told
-tells c sent reply delivered m = record { code = c; upperReset = false; packets = sent; reply = reply; delivered = delivered; after = m }
+abbrev observed : ℕ → Packets → Octets → Packets → Model → Observed
+observed c sent reply delivered m = record { code = c; upperReset = false; packets = sent; reply = reply; delivered = delivered; after = m }
 
 -- the links on the way: with the payload queued, with it acknowledged, and with the DATA received
 abbrev waiting : Model
@@ -135,17 +135,17 @@ emptied = rebuilt fresh Data [] 1 0
 abbrev received : Model
 received = rebuilt fresh Data [] 1 1
 
-pub tells-events : tableTells places events fresh
-    ≡ tells done [] buffer [] (inState Reset fresh)
-    ∷ tells done ((0x10 ∷ []) ∷ []) (one 0x10) [] (inState Reset fresh)
-    ∷ tells done [] buffer [] opened
-    ∷ tells done [] buffer [] waiting
-    ∷ tells queueFull [] buffer [] waiting
-    ∷ tells done ((0x40 ∷ 7 ∷ []) ∷ []) (two 0x40 7) [] waiting
-    ∷ tells done [] buffer [] emptied
-    ∷ tells done ((0x51 ∷ []) ∷ []) (one 0x51) ((5 ∷ 6 ∷ []) ∷ []) received
-    ∷ tells otherNumber ((0x51 ∷ []) ∷ []) (one 0x51) [] received
+pub table-trace : tableTrace places events fresh
+    ≡ observed done [] buffer [] (inState Reset fresh)
+    ∷ observed done ((0x10 ∷ []) ∷ []) (one 0x10) [] (inState Reset fresh)
+    ∷ observed done [] buffer [] opened
+    ∷ observed done [] buffer [] waiting
+    ∷ observed queueFull [] buffer [] waiting
+    ∷ observed done ((0x40 ∷ 7 ∷ []) ∷ []) (two 0x40 7) [] waiting
+    ∷ observed done [] buffer [] emptied
+    ∷ observed done ((0x51 ∷ []) ∷ []) (one 0x51) ((5 ∷ 6 ∷ []) ∷ []) received
+    ∷ observed otherNumber ((0x51 ∷ []) ∷ []) (one 0x51) [] received
     ∷ record { code = done; upperReset = true; packets = (0x20 ∷ []) ∷ []; reply = one 0x20; delivered = []; after = opened }
     ∷ []
 unfolding startOf timerOf payloadOf arrivalOf flatten
-tells-events = refl
+table-trace = refl

@@ -1,10 +1,9 @@
--- What the callers of a link are told, for every list of events: what the step table says, whatever meets the contracts. So two links that are seen
--- alike, of one type or of two, tell the same. For every type of links L and its view v. Assumes nothing.
+-- What the callers of a link observe, for every list of events: what the step table says, whatever meets the contracts. So two links that are seen
+-- alike, of one type or of two, can't be told apart by their calls. For every type of links L and its view v. Assumes nothing.
 --
---   run-by-the-table, final-by-the-table   all that is told, and the link at the end as it is seen, are the table's
+--   run-by-the-table, final-by-the-table   all that is observed, and the link at the end as it is seen, are the table's
 --   runs-alike                             two links of the same view, two histories of the same events
---   run-formed                             a well-formed link stays so, and 27 is never told
---   history-of                             where there are functions that meet the contracts, every list of events has a history
+--   run-formed                             a well-formed link stays so, and 27 is never answered
 use Prim.Native.Nat.{ℕ}
 use mathlib.Core.Path.{_≡_, refl, sym, ap, _∙_}
 use mathlib.Core.Bool.{Bool, true, false, cond}
@@ -19,18 +18,18 @@ use Rattle.dlc_answer.specs.declared.Answer.{Answer}
 use Rattle.dlc_answer.specs.Delivered.{deliveredPart}
 use Rattle.dlc.specs.Calls.{Meets, answerOf}
 use Rattle.dlc_run.specs.Replies.{Octets, Reply}
-use Rattle.dlc_run.specs.Runs.{Contract, nextLink, History, final, packetOf, bufferOf, toldBy, told, toldOf, tableTells, NeverTold}
+use Rattle.dlc_run.specs.Runs.{Contract, nextLink, History, final, packetOf, bufferOf, observedBy, trace, observedOf, tableTrace, NeverAnswered}
 use Rattle.dlc_run.proofs.Copied.{copiedBy-packets}
 
--- the payload told by the answer is that told by the table
+-- the payload delivered by the answer is that of the table
 shown : (b : Bool) (q : Octets) → cond b (deliveredPart b q ∷ []) [] ≡ cond b (drop 1 q ∷ []) []
 shown true q = refl
 shown false q = refl
 
--- of a well-formed link the table never tells 27
-pub tableTells-never : (limit : ℕ) (es : List Event) (m : Model) → m .ok ≡ true → NeverTold badLink (tableTells limit es m)
-tableTells-never limit [] m ok = tt
-tableTells-never limit (e ∷ es) m ok = (never-badLink limit e m ok, tableTells-never limit es (effectOf limit e m .after) (effect-keeps limit e m ∙ ok))
+-- of a well-formed link the table never says 27
+pub tableTrace-never : (limit : ℕ) (es : List Event) (m : Model) → m .ok ≡ true → NeverAnswered badLink (tableTrace limit es m)
+tableTrace-never limit [] m ok = tt
+tableTrace-never limit (e ∷ es) m ok = (never-badLink limit e m ok, tableTrace-never limit es (effectOf limit e m .after) (effect-keeps limit e m ∙ ok))
 
 module _ {L : Type 0} (v : L → Model) where
   -- ---- one call
@@ -48,7 +47,7 @@ module _ {L : Type 0} (v : L → Model) where
     pub link-by-the-table : v (g .link) ≡ effectOf slots e (v l) .after
     link-by-the-table = call-meets .returns .link
 
-    pub call-by-the-table : toldBy v e l g ≡ toldOf e (effectOf slots e (v l))
+    pub call-by-the-table : observedBy v e l g ≡ observedOf e (effectOf slots e (v l))
     call-by-the-table =
         let a : g .answer ≡ answerOf (effectOf slots e (v l)) = call-meets .returns .answer in
         let up : cond (g .answer .delivered) (deliveredPart (g .answer .delivered) (packetOf e) ∷ []) []
@@ -64,28 +63,23 @@ module _ {L : Type 0} (v : L → Model) where
         }
 
   -- ---- a list of them
-  pub run-by-the-table : (es : List Event) (l : L) (h : History v es l) → told v es l h ≡ tableTells slots es (v l)
+  pub run-by-the-table : (es : List Event) (l : L) (h : History v es l) → trace v es l h ≡ tableTrace slots es (v l)
   run-by-the-table [] l h = refl
   run-by-the-table (e ∷ es) l h =
-      λ i. call-by-the-table e l (h .0) i ∷ (run-by-the-table es (nextLink v e l (h .0)) (h .1) ∙ ap (tableTells slots es) (link-by-the-table e l (h .0))) i
+      λ i. call-by-the-table e l (h .0) i ∷ (run-by-the-table es (nextLink v e l (h .0)) (h .1) ∙ ap (tableTrace slots es) (link-by-the-table e l (h .0))) i
 
   pub final-by-the-table : (es : List Event) (l : L) (h : History v es l) → v (final v es l h) ≡ modelAfter slots es (v l)
   final-by-the-table [] l h = refl
   final-by-the-table (e ∷ es) l h = final-by-the-table es (nextLink v e l (h .0)) (h .1) ∙ ap (modelAfter slots es) (link-by-the-table e l (h .0))
 
   -- ---- a well-formed link
-  pub run-formed : (es : List Event) (l : L) (h : History v es l) → v l .ok ≡ true → (v (final v es l h) .ok ≡ true) × NeverTold badLink (told v es l h)
+  pub run-formed : (es : List Event) (l : L) (h : History v es l) → v l .ok ≡ true → (v (final v es l h) .ok ≡ true) × NeverAnswered badLink (trace v es l h)
   run-formed es l h ok = (
     ap (λ (m : Model). m .ok) (final-by-the-table es l h) ∙ run-keeps slots es (v l) ∙ ok,
-    rw (run-by-the-table es l h) (tableTells-never slots es (v l) ok),
+    rw (run-by-the-table es l h) (tableTrace-never slots es (v l) ok),
   )
-
-  -- ---- there are histories wherever a function gives a reply for every event and link
-  pub history-of : ((e : Event) (l : L) → Reply (Contract v e l)) → (es : List Event) (l : L) → History v es l
-  history-of f [] l = tt
-  history-of f (e ∷ es) l = (f e l, history-of f es (nextLink v e l (f e l)))
 
 -- ---- two types of links
 pub runs-alike : {L L′ : Type 0} (v : L → Model) (v′ : L′ → Model) (es : List Event) (l : L) (l′ : L′) → v l ≡ v′ l′ → (h : History v es l) (h′ : History v′ es l′)
-    → told v es l h ≡ told v′ es l′ h′
-runs-alike v v′ es l l′ e h h′ = run-by-the-table v es l h ∙ ap (tableTells slots es) e ∙ sym (run-by-the-table v′ es l′ h′)
+    → trace v es l h ≡ trace v′ es l′ h′
+runs-alike v v′ es l l′ e h h′ = run-by-the-table v es l h ∙ ap (tableTrace slots es) e ∙ sym (run-by-the-table v′ es l′ h′)

@@ -1,10 +1,10 @@
--- Lists of events at one link: what its calls gave back, and what a caller was told by them. Cited by proofs/Runs, where it is the step table's. Assumes nothing.
+-- Lists of events at one link: what its calls gave back, and what a caller observes of them. Cited by proofs/Runs, where it is the step table's. Assumes nothing.
 --
 --   History v es l         for each event of the list what its call gave back: anything that meets the contract of the link's function
 --   final v es l h         the link after them
---   told v es l h          what the caller was told, call by call, and the link as it was seen after each
---   tableTells limit es m  what the step table says of the same
---   NeverTold c ts         no call told the number c
+--   trace v es l h         what the caller observes, call by call, and the link as it was seen after each
+--   tableTrace limit es m  what the step table says of the same
+--   NeverAnswered c ts     no call answered the number c
 --
 -- v is the view of the links that the calls take: `view` of `Link`, or that of the link in plain numbers.
 use Prim.Native.Nat.{ℕ}
@@ -41,8 +41,8 @@ abbrev pub final : {L : Type 0} (v : L → Model) (es : List Event) (l : L) → 
 final v [] l h = l
 final v (e ∷ es) l h = final v es (nextLink v e l (h .0)) (h .1)
 
--- ---- what a caller is told by a call
-pub record Told : Type 0 where
+-- ---- what a caller observes of a call
+pub record Observed : Type 0 where
   pub code : ℕ
   pub upperReset : Bool
   -- the packets copied out of the reply buffer, and the whole buffer after the call
@@ -67,8 +67,8 @@ bufferOf (payload p before) = before
 bufferOf (arrival packet before) = before
 
 -- by what the call gave back
-abbrev pub toldBy : {L : Type 0} (v : L → Model) (e : Event) (l : L) → Reply (Contract v e l) → Told
-toldBy v e l g = record {
+abbrev pub observedBy : {L : Type 0} (v : L → Model) (e : Event) (l : L) → Reply (Contract v e l) → Observed
+observedBy v e l g = record {
   code = g .answer .code;
   upperReset = g .answer .«upper_reset»;
   packets = copiedBy (g .answer) (g .later);
@@ -77,13 +77,13 @@ toldBy v e l g = record {
   after = v (g .link);
 }
 
-abbrev pub told : {L : Type 0} (v : L → Model) (es : List Event) (l : L) → History v es l → List Told
-told v [] l h = []
-told v (e ∷ es) l h = toldBy v e l (h .0) ∷ told v es (nextLink v e l (h .0)) (h .1)
+abbrev pub trace : {L : Type 0} (v : L → Model) (es : List Event) (l : L) → History v es l → List Observed
+trace v [] l h = []
+trace v (e ∷ es) l h = observedBy v e l (h .0) ∷ trace v es (nextLink v e l (h .0)) (h .1)
 
 -- by the table: its number, its packets one after another at the front of the buffer, the payload behind the control octet, the link after it
-abbrev pub toldOf : Event → Effect → Told
-toldOf e d = record {
+abbrev pub observedOf : Event → Effect → Observed
+observedOf e d = record {
   code = d .code;
   upperReset = d .upperReset;
   packets = d .packets;
@@ -92,11 +92,11 @@ toldOf e d = record {
   after = d .after;
 }
 
-abbrev pub tableTells : ℕ → List Event → Model → List Told
-tableTells limit [] m = []
-tableTells limit (e ∷ es) m = toldOf e (effectOf limit e m) ∷ tableTells limit es (effectOf limit e m .after)
+abbrev pub tableTrace : ℕ → List Event → Model → List Observed
+tableTrace limit [] m = []
+tableTrace limit (e ∷ es) m = observedOf e (effectOf limit e m) ∷ tableTrace limit es (effectOf limit e m .after)
 
--- no call of the list told this number
-abbrev pub NeverTold : ℕ → List Told → Type 0
-NeverTold c [] = Unit {0}
-NeverTold c (t ∷ ts) = (t .code ≢ c) × NeverTold c ts
+-- no call of the list answered this number
+abbrev pub NeverAnswered : ℕ → List Observed → Type 0
+NeverAnswered c [] = Unit {0}
+NeverAnswered c (t ∷ ts) = (t .code ≢ c) × NeverAnswered c ts

@@ -1,4 +1,5 @@
 pub mod Rows
 pub mod Refusals
+pub mod Entries
 pub mod StaysFormed
 pub mod Cases
