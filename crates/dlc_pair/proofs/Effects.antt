@@ -10,7 +10,7 @@ use mathlib.Core.List.{[], _∷_, _++_, append-nil}
 use lib.ListN.{length}
 use lib.Dec.{leb, ltb, eqb, leb·suc-zero}
 use borrow.Author.Tests.{lt-ltb, le-ltb, leb-true, leb-false, ltb-false}
-use Rattle.dlc_packet.proofs.Numbers.{distance-dackNumber}
+use Rattle.dlc_packet.proofs.Numbers.{distance-dackNumber, dackNumber-below}
 use Rattle.dlc_table.specs.declared.State.the-variants.{Reset, Data}
 use Rattle.dlc_table.specs.Answers.{done, payloadTooLong, notOpen, queueFull, noEntry, otherNumber, replyTooSmall}
 use Rattle.dlc_table.specs.Model.{Model, rebuilt, inState, fresh, opened}
@@ -153,9 +153,9 @@ arrivalOf-data a x p n h =
 data-becomes : (a : Peer) → Fits (modelOf a) → (x : ℕ) (p : Octets) (short hit : Bool)
     → Arrival modelOf (dataPdu x p) (dataEffect short hit (modelOf a)) a (cond (not short) (takeData rules hit p a) a)
 data-becomes a f x p true hit = becomes-same replyTooSmall (λ e. omega (arith, e))
-data-becomes a f x p false true = becomes-answer rules (delivering p (a .receiver)) refl (λ e. omega (arith, e)) refl refl (omega arith)
+data-becomes a f x p false true = becomes-answer rules (delivering p (a .receiver)) refl (λ e. omega (arith, e)) refl refl (dackNumber-below (advance (a .receiver .expected) 1) (omega arith))
 data-becomes a f x p false false =
-    becomes-answer rules (a .receiver) refl (λ e. omega (arith, e)) refl (sym (append-nil (a .receiver .delivered))) (f .expected)
+    becomes-answer rules (a .receiver) refl (λ e. omega (arith, e)) refl (sym (append-nil (a .receiver .delivered))) (dackNumber-below (a .receiver .expected) (f .expected))
 
 -- ---- DACK: 26, 24 or slots freed
 abbrev dackEffect : Bool → Bool → Model → ℕ → Effect
