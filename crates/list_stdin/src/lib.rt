@@ -29,7 +29,7 @@ pub fn list(kiss: bool, level: u8) -> u8
     let mut input = io::large_buffer();
     let mut buffer = [0u8; qaft::MAX_SEGMENT];
     let mut out = io::large_buffer();
-    let heading = listing::put_heading(kiss, level, &mut out, 0);
+    let heading = listing_ends::put_heading(kiss, level, &mut out, 0);
     write(&out, heading);
     let l = list_chunks(Lister::new(kiss, level), &mut input, &mut buffer, &mut out);
     let end = l.put_end(&mut out);

@@ -19,7 +19,8 @@ use Rattle.lister.specs.Entries.{flagOf, sourceRules, lineOf, counted}
 use Rattle.lister.specs.declared.Listed.{Listed}
 use Rattle.lister.specs.declared.Lister.{Lister}
 use Rattle.lister.specs.declared.Progress.{Progress}
-use Rattle.listing.specs.Line.{endLine, maxLine}
+use Rattle.listing.specs.Line.{maxLine}
+use Rattle.listing_ends.specs.Ends.{endLine}
 use Rattle.qaft.specs.Answers.{done, outTooSmall, bufferTooSmall, badLevel}
 use Rattle.qaft.specs.Limits.{maxLevel, maxSegment}
 

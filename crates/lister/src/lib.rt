@@ -7,7 +7,8 @@ ghost use Prim.Native.Nat.{_+_, _≤_};
 ghost use lib.ListN.{length};
 ghost use lib.Seq.{sets};
 ghost use Rattle.qaft.specs.Limits.{maxData, maxSegment};
-ghost use Rattle.listing.specs.Line.{maxLine, shortLine};
+ghost use Rattle.listing.specs.Line.{maxLine};
+ghost use Rattle.listing_ends.specs.Ends.{shortLine};
 ghost use Rattle.text.specs.Room.{textInto, textEnd};
 ghost use Rattle.lister.specs.Entries.{flagOf, dataFrom, entryLength, ruleOf, entryOf, lineOf};
 ghost use Rattle.lister.specs.Lines.{freshLister, gathered, progressOf, list, lastLine};
@@ -109,7 +110,7 @@ impl Lister {
         ensures { λ _. ⌜ now (out .exit) ≡ textInto shortLine (lastLine self) (now (out .entry)) 0 ⌝ }
     {
         let c = self.counts;
-        listing::put_end(self.reports, c.before, c.after, out, 0)
+        listing_ends::put_end(self.reports, c.before, c.after, out, 0)
     }
 
     // Nothing is taken, and nothing changes.

@@ -1,5 +1,5 @@
-// The lines of a listing, each put into a lent buffer (specs/Line): the heading, the line of a report, the last line.
-// What reads and composes stands above.
+// The line of a report in a listing, put into a lent buffer (specs/Line). The heading and the last line are in the crate listing_ends; what reads
+// and composes stands above both.
 ghost use mathlib.Core.Path.{_≡_};
 ghost use Prim.Native.Nat.{_+_, _-_, _*_, _≤_};
 ghost use lib.ListN.{length, take, drop};
@@ -8,7 +8,7 @@ ghost use Rattle.text.specs.Placed.{Placed};
 ghost use Rattle.text.specs.Room.{textInto, textEnd};
 ghost use Rattle.text.specs.Text.{maxDigits};
 ghost use Rattle.listing.specs.Names.{nameStart, nameEnd};
-ghost use Rattle.listing.specs.Line.{heading, name, details, reportLine, endLine, lineRoom, shortLine};
+ghost use Rattle.listing.specs.Line.{name, details, reportLine, lineRoom};
 
 // What a listing calls a report, of either framing; a frame with the number of its data octets.
 pub enum Entry {
@@ -27,22 +27,8 @@ const LINE_ROOM: usize = 51;
 // The line of every report has room here.
 pub const MAX_LINE: usize = 2 * qaft::MAX_DATA + LINE_ROOM;
 
-// The heading and the last line have room here.
-const SHORT_LINE: usize = 80;
-
-// Puts the first line at index `at` of `out`; the index behind it. Where `out` has no room for such a line it stays as it is,
-// and so does the index.
-pub fn put_heading(kiss: bool, level: u8, out: &mut [u8], at: usize) -> usize
-    ensures { λ r. ⌜ r ≡ textEnd shortLine (heading kiss level) (length (now (out .entry))) at ⌝ }
-    ensures { λ _. ⌜ now (out .exit) ≡ textInto shortLine (heading kiss level) (now (out .entry)) at ⌝ }
-{
-    if octets::has_room(SHORT_LINE, out.len(), at) {
-        return heading_pieces(kiss, level, out, at);
-    }
-    at
-}
-
-// Puts the line of report number `number`, likewise. `octets` are the data of a frame.
+// Puts the line of report number `number` at index `at` of `out`; the index behind it. Where `out` has no room for such a line it stays as it is,
+// and so does the index. `octets` are the data of a frame.
 pub fn put_report(number: u64, entry: Entry, octets: &[u8], out: &mut [u8], at: usize) -> usize
     ensures { λ r. ⌜ r ≡ textEnd (lineRoom (length (now (octets .entry)))) (reportLine number entry (now (octets .entry))) (length (now (out .entry))) at ⌝ }
     ensures { λ _. ⌜ now (out .exit) ≡ textInto (lineRoom (length (now (octets .entry)))) (reportLine number entry (now (octets .entry))) (now (out .entry)) at ⌝ }
@@ -58,42 +44,6 @@ pub fn put_report(number: u64, entry: Entry, octets: &[u8], out: &mut [u8], at: 
         return at;
     }
     report_pieces(number, entry, octets, out, at)
-}
-
-// Puts the last line, likewise.
-pub fn put_end(reports: u64, before: u64, after: u64, out: &mut [u8], at: usize) -> usize
-    ensures { λ r. ⌜ r ≡ textEnd shortLine (endLine reports before after) (length (now (out .entry))) at ⌝ }
-    ensures { λ _. ⌜ now (out .exit) ≡ textInto shortLine (endLine reports before after) (now (out .entry)) at ⌝ }
-{
-    if octets::has_room(SHORT_LINE, out.len(), at) {
-        return end_pieces(reports, before, after, out, at);
-    }
-    at
-}
-
-fn heading_pieces(kiss: bool, level: u8, out: &mut [u8], at: usize) -> usize
-    requires { ⌜ at + shortLine ≤ length (now out) ⌝ }
-    ensures { λ r. ⌜ Placed (now (out .entry)) at (heading kiss level) (now (out .exit)) r ⌝ }
-{
-    if kiss {
-        return octets::put(b"KISS listing\n", out, at);
-    }
-    let a = octets::put(b"QAFT listing level ", out, at);
-    let b = text::put_decimal(level as u64, out, a);
-    octets::put(b"\n", out, b)
-}
-
-fn end_pieces(reports: u64, before: u64, after: u64, out: &mut [u8], at: usize) -> usize
-    requires { ⌜ at + shortLine ≤ length (now out) ⌝ }
-    ensures { λ r. ⌜ Placed (now (out .entry)) at (endLine reports before after) (now (out .exit)) r ⌝ }
-{
-    let a = octets::put(b"end ", out, at);
-    let b = text::put_decimal(reports, out, a);
-    let c = octets::put(b" before ", out, b);
-    let d = text::put_decimal(before, out, c);
-    let e = octets::put(b" after ", out, d);
-    let f = text::put_decimal(after, out, e);
-    octets::put(b"\n", out, f)
 }
 
 fn report_pieces(number: u64, entry: Entry, octets: &[u8], out: &mut [u8], at: usize) -> usize

@@ -31,9 +31,10 @@ use Rattle.lister.proofs.Rules.{lawful, qaft-length, kiss-length}
 use Rattle.lister.specs.Entries.{entryOfQaft, entryOfKiss, entryLength, flagOf, sourceRules, lineOf, counted}
 use Rattle.lister.specs.Lines.{mostOctets, freshLister, lastLine}
 use Rattle.lister.specs.declared.Lister.{Lister}
-use Rattle.listing.proofs.Ends.{length-heading, length-endLine}
-use Rattle.listing.specs.Line.{heading, endLine, maxLine, shortLine}
+use Rattle.listing.specs.Line.{maxLine}
 use Rattle.listing.specs.declared.Entry.{Entry}
+use Rattle.listing_ends.specs.Ends.{heading, endLine, shortLine}
+use Rattle.listing_ends.proofs.Ends.{length-heading, length-endLine}
 use Rattle.listing_laws.proofs.Calls.{cap-is, lines-short, retold, chunks-is}
 use Rattle.listing_laws.proofs.Events.{lines-shown, counted-all, length-shown, lines-told, length-told}
 use Rattle.listing_laws.specs.Caller.{Written, listChunks, shortText, listed}

@@ -2,7 +2,8 @@
 use mathlib.Core.List.{[], _∷_}
 use mathlib.Core.Path.{_≡_, refl}
 use Rattle.capture.specs.Whole.{before, after}
-use Rattle.listing.specs.Line.{heading, details, reportLine, endLine}
+use Rattle.listing.specs.Line.{details, reportLine}
+use Rattle.listing_ends.specs.Ends.{heading, endLine}
 use Rattle.listing_laws.specs.Listing.{textOf, linesFrom, qaftListing, kissListing}
 use Rattle.framing.specs.Flags.{hasFlag}
 use Rattle.framing.specs.Reports.{afterFlag, atFront, segments, unskipped, onto, ontoPair, unescape, checkFrom, checkOf, judged, reportsOfOctets, reportsOfSegment, reportsOfSegments, reportsOf}

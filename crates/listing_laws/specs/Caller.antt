@@ -8,7 +8,7 @@ use mathlib.Core.List.{List, [], _∷_, _++_}
 use lib.ListN.{length, take, drop}
 use Rattle.lister.specs.Lines.{freshLister, list, lastLine}
 use Rattle.lister.specs.declared.Lister.{Lister}
-use Rattle.listing.specs.Line.{heading, shortLine}
+use Rattle.listing_ends.specs.Ends.{heading, shortLine}
 use Rattle.text.specs.Room.{textInto, textEnd}
 
 -- what was written; the lister and the two buffers after it

@@ -12,8 +12,9 @@ use Rattle.framing.specs.Reports.{Reported, reportsOf}
 use Rattle.kiss.specs.Octets as kiss
 use Rattle.kiss_rules.specs.Rules as kissRules
 use Rattle.lister.specs.Entries.{entryOfQaft, entryOfKiss}
-use Rattle.listing.specs.Line.{heading, reportLine, endLine}
+use Rattle.listing.specs.Line.{reportLine}
 use Rattle.listing.specs.declared.Entry.{Entry}
+use Rattle.listing_ends.specs.Ends.{heading, endLine}
 use Rattle.qaft.specs.Escape as qaft
 use Rattle.qaft_rules.specs.Rules as qaftRules
 

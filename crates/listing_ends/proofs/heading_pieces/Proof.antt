@@ -1,8 +1,8 @@
--- `listing::heading_pieces` meets its contract: one text for KISS, three pieces one after another for QAFT. Assumes nothing.
+-- `listing_ends::heading_pieces` meets its contract: one text for KISS, three pieces one after another for QAFT. Assumes nothing.
 use borrow.Author.Needs.{needs}
-use Rattle.listing.proofs.Ends.{kiss-placed, qaft-placed}
-use Rattle.listing.proofs.heading_pieces.Statement.{statement}
-use Rattle.listing.proofs.heading_pieces.Tie as tie
+use Rattle.listing_ends.proofs.Ends.{kiss-placed, qaft-placed}
+use Rattle.listing_ends.proofs.heading_pieces.Statement.{statement}
+use Rattle.listing_ends.proofs.heading_pieces.Tie as tie
 
 slice-aggregate-put : tie.Need-slice-aggregate-put
 slice-aggregate-put c = search needs

@@ -1,8 +1,8 @@
--- `listing::end_pieces` meets its contract: seven pieces one after another. Assumes nothing.
+-- `listing_ends::end_pieces` meets its contract: seven pieces one after another. Assumes nothing.
 use borrow.Author.Needs.{needs}
-use Rattle.listing.proofs.Ends.{end-placed}
-use Rattle.listing.proofs.end_pieces.Statement.{statement}
-use Rattle.listing.proofs.end_pieces.Tie as tie
+use Rattle.listing_ends.proofs.Ends.{end-placed}
+use Rattle.listing_ends.proofs.end_pieces.Statement.{statement}
+use Rattle.listing_ends.proofs.end_pieces.Tie as tie
 
 slice-aggregate-put : tie.Need-slice-aggregate-put
 slice-aggregate-put c = search needs

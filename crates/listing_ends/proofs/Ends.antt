@@ -5,7 +5,7 @@ use mathlib.Core.List.{List, _++_}
 use mathlib.Core.Path.{_≡_, sym, subst}
 use native.Mathlib.Omega.{arith}
 use lib.ListN.{length, length-append}
-use Rattle.listing.specs.Line.{heading, endLine, shortLine}
+use Rattle.listing_ends.specs.Ends.{heading, endLine, shortLine}
 use Rattle.octets.specs.Put.{putInto, putEnd}
 use Rattle.text.specs.Placed.{Placed}
 use Rattle.text.proofs.Putting.{placed, placed-++, length-placed}
