@@ -27,6 +27,10 @@ resetting = inState Reset fresh
 abbrev waiting : Model
 waiting = rebuilt fresh Wait ((1 ∷ []) ∷ (2 ∷ []) ∷ []) 14 3
 
+-- ---- a refusal: its number and nothing else, for the links below as for every one
+pub refusal-changes-nothing : (m : Model) (c : ℕ) → refuse m c ≡ record { code = c; upperReset = false; delivered = false; packets = []; after = m }
+refusal-changes-nothing m c = refl
+
 -- ---- RESET: clear
 pub reset-clears : arrivalOf places waiting resetPacket room
     ≡ record { code = done; upperReset = true; delivered = false; packets = resetAckPacket ∷ []; after = opened }
