@@ -11,8 +11,8 @@ use Rattle.dlc_table.specs.Answers.{done, refuses}
 use Rattle.dlc_table.specs.Model.{Model}
 use Rattle.dlc_table.specs.Events.{Effect, effect, refuse, timerStep}
 use Rattle.dlc_queue.specs.Queue.{slots, replySize, held}
-use Rattle.dlc_queue.specs.Send.{lengthsOf, Sent}
-use Rattle.dlc_queue.proofs.Sending.{sent-all, length-dataPackets}
+use Rattle.dlc_send.specs.Send.{lengthsOf, Sent}
+use Rattle.dlc_send.proofs.Sending.{sent-all, length-dataPackets}
 use Rattle.dlc.specs.declared.Link.{Link}
 use Rattle.dlc_answer.specs.declared.Answer.{Answer}
 use Rattle.dlc.specs.declared.Outcome.{Outcome}

@@ -17,7 +17,7 @@ use Rattle.dlc_table.specs.Answers.{refuses}
 use Rattle.dlc_table.specs.Model.{Model}
 use Rattle.dlc_table.specs.Events.{Effect, startOf, timerOf, payloadOf, arrivalOf}
 use Rattle.dlc_queue.specs.Queue.{slots}
-use Rattle.dlc_queue.specs.Send.{lengthsOf}
+use Rattle.dlc_send.specs.Send.{lengthsOf}
 use Rattle.dlc.specs.declared.Link.{Link}
 use Rattle.dlc.specs.declared.Outcome.{Outcome}
 use Rattle.dlc.specs.View.{view}

@@ -2,4 +2,4 @@
 pub use Rattle.dlc_packet.specs.Numbers.{modulus, advance, dackNumber, distance}
 pub use Rattle.dlc_packet.specs.Packet.{maxPayload, resetPacket, resetAckPacket, dataPacket, dataPackets, dackPacket, kindOf}
 pub use Rattle.dlc_queue.specs.Queue.{slots, replySize, payloads}
-pub use Rattle.dlc_queue.specs.Send.{lengthsOf}
+pub use Rattle.dlc_send.specs.Send.{lengthsOf}

@@ -154,7 +154,7 @@ impl Link {
     {
         let q = self.queue;
         let base = self.base;
-        let lengths = q.send(base, reply);
+        let lengths = dlc_send::send(q, base, reply);
         Outcome {
             link: self,
             answer: Answer {

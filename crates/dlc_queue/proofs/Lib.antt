@@ -2,5 +2,4 @@ pub mod Lists
 pub mod Short
 pub mod Shape
 pub mod Slots
-pub mod Sending
 pub mod Values

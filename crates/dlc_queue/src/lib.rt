@@ -1,19 +1,13 @@
 // The queue of a DLC link: at most SLOTS payloads of at most 256 octets, oldest first, by value.
-// Definitions: specs/. Every public function takes any queue value whatever, also one that no call has made.
+// It is sent by the crate dlc_send. Definitions: specs/. Every public function takes any queue value whatever, also one that no call has made.
 ghost use mathlib.Core.Path.{_≡_};
 ghost use mathlib.Core.Bool.{true};
-ghost use mathlib.Core.List.{map};
-ghost use Prim.Native.Nat.{_+_, _-_, _≤_, _<_};
+ghost use Prim.Native.Nat.{_-_, _≤_};
 ghost use lib.ListN.{length, take, drop};
-ghost use lib.Seq.{sets};
-ghost use Rattle.dlc_packet.specs.Numbers.{modulus};
-ghost use Rattle.dlc_packet.specs.Packet.{maxPayload, dataPacket, dataPackets};
-ghost use Rattle.dlc_queue.specs.Queue.{slots, replySize, octetsOf, held, allShort, formed, atRest, fresh, emptied, Pushed, Removed};
-ghost use Rattle.dlc_queue.specs.Send.{Sent, Written};
-use dlc_packet::DATA;
+ghost use Rattle.dlc_packet.specs.Packet.{maxPayload};
+ghost use Rattle.dlc_queue.specs.Queue.{slots, octetsOf, held, allShort, formed, atRest, fresh, emptied, Pushed, Removed};
 use dlc_packet::MAX_PACKET;
 use dlc_packet::MAX_PAYLOAD;
-use dlc_packet::MODULUS;
 
 // A slot: a payload is the first len octets, the others are free.
 #[repr(C)]
@@ -118,25 +112,6 @@ impl Queue {
         self.count = count - n;
         self
     }
-
-    // Writes every payload as a DATA packet to the front of reply, oldest first, the oldest with the number base; returns the lengths.
-    pub fn send(self, base: u8, reply: &mut [u8]) -> [usize; Queue::SLOTS]
-        ensures { λ r. ⌜ Sent self base (now (reply .entry)) (now (reply .exit)) r ⌝ }
-    {
-        if self.well_formed() {
-            if MODULUS <= base {
-                return [0; Queue::SLOTS];
-            }
-            if reply.len() < Queue::REPLY_SIZE {
-                return [0; Queue::SLOTS];
-            }
-            let n = self.count;
-            let slots = self.slots;
-            send_slots(slots, n, base, reply)
-        } else {
-            [0; Queue::SLOTS]
-        }
-    }
 }
 
 // Whether none of the first n payloads is too long.
@@ -184,50 +159,4 @@ fn moved_down(q: [Payload; Queue::SLOTS], count: usize, n: usize) -> [Payload; Q
         j += 1;
     }
     r
-}
-
-// Writes the octets of p into out from index at on.
-fn copy_octets(p: Payload, out: &mut [u8], at: usize)
-    requires { ⌜ (p .len ≤ maxPayload) × (at + p .len ≤ length (now out)) ⌝ }
-    ensures { λ _. ⌜ now (out .exit) ≡ sets (now (out .entry)) at (octetsOf p) ⌝ }
-{
-    let len = p.len;
-    let slot = p.octets;
-    octets::put(&slot[..len], out, at);
-}
-
-// Writes DATA x with the octets of p at index at, and returns the packet's length.
-fn put_data(p: Payload, x: u8, out: &mut [u8], at: usize) -> usize
-    requires { ⌜ (p .len ≤ maxPayload) × ((x < modulus) × (at + 1 + p .len ≤ length (now out))) ⌝ }
-    ensures { λ r. ⌜ (r ≡ 1 + p .len) × (now (out .exit) ≡ sets (now (out .entry)) at (dataPacket x (octetsOf p))) ⌝ }
-{
-    out[at] = DATA + x;
-    copy_octets(p, out, at + 1);
-    let len = p.len;
-    1 + len
-}
-
-// Writes the first n payloads as DATA packets with the numbers from base on, and returns their lengths.
-fn send_slots(
-    q: [Payload; Queue::SLOTS],
-    n: usize,
-    base: u8,
-    out: &mut [u8],
-) -> [usize; Queue::SLOTS]
-    requires { ⌜ (n ≤ slots) × ((allShort (take n q) ≡ true) × ((base < modulus) × (replySize ≤ length (now out)))) ⌝ }
-    ensures { λ r. ⌜ Written (dataPackets base (map octetsOf (take n q))) (now (out .entry)) (now (out .exit)) r ⌝ }
-{
-    let mut lengths = [0usize; Queue::SLOTS];
-    let mut x = base;
-    let mut at = 0;
-    let mut i = 0;
-    while i < n {
-        let p = q[i];
-        let k = put_data(p, x, out, at);
-        lengths[i] = k;
-        at += k;
-        x = dlc_packet::advanced(x, 1);
-        i += 1;
-    }
-    lengths
 }

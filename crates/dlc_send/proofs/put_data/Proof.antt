@@ -4,8 +4,8 @@ use native.Mathlib.Numerals.{add-one}
 use mathlib.Core.Path.{refl, _∙_}
 use lib.ListN.{length-set}
 use borrow.Author.Needs.{needs}
-use Rattle.dlc_queue.proofs.put_data.Statement.{statement}
-use Rattle.dlc_queue.proofs.put_data.Tie as tie
+use Rattle.dlc_send.proofs.put_data.Statement.{statement}
+use Rattle.dlc_send.proofs.put_data.Tie as tie
 
 add-out : tie.Need-add-out
 add-out c = search needs

@@ -6,14 +6,14 @@ use mathlib.Core.List.{List, [], map, flatten}
 use lib.ListN.{length, take, drop, getD, length-set, length-map, drop-of-length-le}
 use lib.Seq.{getD-take, length-take-le}
 use Rattle.dlc_packet.specs.Numbers.{advance}
 use Rattle.dlc_queue.specs.declared.Payload.{Payload}
 use Rattle.dlc_queue.specs.Queue.{slots, octetsOf}
 use Rattle.dlc_packet.specs.Packet.{maxPayload}
 use Rattle.dlc_queue.proofs.Shape.{array-long, long-at}
 use Rattle.dlc_queue.proofs.Short.{none, short-at}
-use Rattle.dlc_queue.proofs.Sending.{Sending, next, reply-next, counts-next, sent, short-payloads}
-use Rattle.dlc_queue.proofs.send_slots.Statement.{statement}
-use Rattle.dlc_queue.proofs.send_slots.Tie as tie
+use Rattle.dlc_send.proofs.Sending.{Sending, next, reply-next, counts-next, sent, short-payloads}
+use Rattle.dlc_send.proofs.send_slots.Statement.{statement}
+use Rattle.dlc_send.proofs.send_slots.Tie as tie
 
 abbrev Inv-loop : tie.InvT-loop
 Inv-loop n base out₀ slots lengths₀ x₀ at₀ i₀ out lengths x at i = Sending (map octetsOf (take n slots)) base out₀ out lengths x at i

@@ -12,13 +12,13 @@ use borrow.Author.Tests.{leb-true, le-leb, lt-leb, lt-ltb, le-ltb}
 use Rattle.common.proofs.Buffer.{sets-++, sets-front}
 use Rattle.dlc_packet.specs.Numbers.{modulus, advance}
 use Rattle.dlc_packet.specs.Packet.{maxPayload, dataPacket, dataPackets}
 use Rattle.dlc_queue.specs.declared.Payload.{Payload}
 use Rattle.dlc_queue.specs.declared.Queue.{Queue}
 use Rattle.dlc_queue.specs.Queue.{slots, replySize, octetsOf, allShort, payloads, formed}
-use Rattle.dlc_queue.specs.Send.{sending, Written, Sent}
+use Rattle.dlc_send.specs.Send.{sending, Written, Sent}
 use Rattle.dlc_queue.proofs.Lists.{drop-take-cons, map-drop}
 use Rattle.common.proofs.Bools.{and-both}
 use Rattle.dlc_queue.proofs.Short.{none}
 
 -- the loop's invariant: x is the number of slot i, at the index of its packet, and what is left gives the whole
 pub record Sending (ps : List (List ℕ)) (base : ℕ) (out₀ out lengths : List ℕ) (x at i : ℕ) : Type 0 where

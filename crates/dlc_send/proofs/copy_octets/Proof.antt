@@ -8,10 +8,10 @@ use denote.Ref.{now}
 use borrow.Author.Needs.{needs}
 use Rattle.octets.proofs.Putting.{into-fits}
 use Rattle.dlc_packet.specs.Packet.{maxPayload}
 use Rattle.dlc_queue.specs.Queue.{octetsOf}
 use Rattle.dlc_queue.proofs.Shape.{octets-long}
-use Rattle.dlc_queue.proofs.copy_octets.Statement.{statement}
-use Rattle.dlc_queue.proofs.copy_octets.Tie as tie
+use Rattle.dlc_send.proofs.copy_octets.Statement.{statement}
+use Rattle.dlc_send.proofs.copy_octets.Tie as tie
 
 array-share-prefix-slot : tie.Need-array-share-prefix-slot
 array-share-prefix-slot c =

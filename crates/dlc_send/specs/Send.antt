@@ -1,5 +1,5 @@
 -- Sending the queue: "every queued payload as DATA, oldest first, none removed"; "places count up from the oldest number, and DATA carries its place's number".
--- Cited by dlc_queue's functions and by the specs of the link. Assumes nothing.
+-- Cited by dlc_send's functions and by the specs of the link. Assumes nothing.
 use Prim.Native.Nat.{ℕ}
 use mathlib.Core.Path.{_≡_}
 use mathlib.Core.Bool.{cond, _&&_}
