@@ -12,10 +12,11 @@ use lib.Dec.{leb, ltb, eqb, leb·suc-zero}
 use borrow.Author.Tests.{lt-ltb, le-ltb, leb-true, leb-false, ltb-false}
 use Rattle.dlc_packet.proofs.Numbers.{distance-dackNumber, dackNumber-below}
 use Rattle.dlc_table.specs.declared.State.the-variants.{Reset, Data}
-use Rattle.dlc_table.specs.Answers.{done, payloadTooLong, notOpen, queueFull, noEntry, otherNumber, replyTooSmall}
+use Rattle.dlc_table.specs.Answers.{done, payloadTooLong, notOpen, queueFull, noEntry, replyTooSmall}
 use Rattle.dlc_table.specs.Model.{Model, rebuilt, inState, fresh, opened}
-use Rattle.dlc_table.specs.Events.{Effect, effect, refuse, cleared, expectNext, dackOf, judged, dataStep, stateOf, without, distanceOf, dackStep, timerStep, startStep}
+use Rattle.dlc_table.specs.Events.{Effect, effect, refuse, cleared, stateOf, without, distanceOf, dackStep, timerStep, startStep}
 use Rattle.dlc_table.specs.Events.{queued, isOpen, packetStep, startOf, timerOf, payloadOf, arrivalOf}
+use Rattle.dlc_table.proofs.Rows.{taken, other, data-open}
 use Rattle.dlc.specs.Limits.{modulus, advance, slots, maxPayload, replySize, resetPacket, resetAckPacket, dataPackets}
 use Rattle.dlc.proofs.Values.{Fits, fits-fresh, fits-rebuilt}
 use Rattle.dlc_run.specs.Replies.{Octets, Packets}
@@ -136,19 +137,13 @@ ltb-not-leb m n = by-case (leb n m) refl
 abbrev dataEffect : Bool → Bool → Model → Effect
 dataEffect short hit m =
     cond short (refuse m replyTooSmall)
-    (cond hit
-    (record { code = done; upperReset = false; delivered = true; packets = dackOf (expectNext m) ∷ []; after = expectNext m })
-    (effect otherNumber (dackOf m ∷ []) m))
-
-data-open : (m : Model) (q : Packets) (x : ℕ) → dataStep m (stateOf q) x ≡ judged m x
-data-open m [] x = refl
-data-open m (p ∷ q) x = refl
+    (cond hit (taken m) (other m))
 
 arrivalOf-data : (a : Peer) (x : ℕ) (p : Octets) (n : ℕ) → Sound (dataPdu x p)
     → arrivalOf slots (modelOf a) (encode (dataPdu x p)) n ≡ dataEffect (ltb n replySize) (eqb x (a .receiver .expected)) (modelOf a)
 unfolding arrivalOf
 arrivalOf-data a x p n h =
-    ap (cond (ltb n replySize) (refuse (modelOf a) replyTooSmall)) (ap (packetStep (modelOf a)) (kindOf-data x p h) ∙ data-open (modelOf a) (a .sender .queue) x)
+    ap (cond (ltb n replySize) (refuse (modelOf a) replyTooSmall)) (ap (packetStep (modelOf a)) (kindOf-data x p h) ∙ data-open (modelOf a) (stateOf (a .sender .queue)) x (is-open (a .sender .queue)))
 
 data-becomes : (a : Peer) → Fits (modelOf a) → (x : ℕ) (p : Octets) (short hit : Bool)
     → Arrival modelOf (dataPdu x p) (dataEffect short hit (modelOf a)) a (cond (not short) (takeData rules hit p a) a)

@@ -12,13 +12,12 @@ use Rattle.dlc.specs.Limits.{modulus, dackPacket}
 use Rattle.dlc.specs.Calls.{Meets}
 use Rattle.dlc.proofs.Values.{Fits}
 use Rattle.dlc_run.proofs.Copied.{copiedBy-packets}
-use Rattle.dlc_run.specs.Replies.{Octets, Packets, isData, copiedBy}
+use Rattle.dlc_run.specs.Replies.{Octets, Packets, isData, copiedBy, Never}
 use Rattle.window.specs.Packets.{Packet, dackPdu, countData}
 use Rattle.window.specs.Ends.{Rules, End as Peer, Sender, Receiver, withSender, answering}
 use Rattle.window.proofs.InFlight.{All, all-++}
 use Rattle.dlc_pair.specs.World.{count, End}
 use Rattle.dlc_pair.specs.History.{called}
-use Rattle.dlc_pair.specs.Demand3.{Never}
 use Rattle.dlc_pair.proofs.Codec.{encode, Sound, count-++, count-data}
 use Rattle.dlc_pair.proofs.Relation.{Follows}
 

@@ -7,7 +7,7 @@ use mathlib.Core.List.{List, map}
 use Rattle.dlc_table.specs.Answers.{badLink}
 use Rattle.dlc_table.specs.Model.{Model}
 use Rattle.dlc.proofs.Values.{Fits}
-use Rattle.dlc_run.specs.Replies.{Packets, isData}
+use Rattle.dlc_run.specs.Replies.{Packets, isData, Never}
 use Rattle.window.specs.Sides.{Both, mirror}
 use Rattle.window.specs.Packets.{Packet}
 use Rattle.window.specs.Ends.{End as Peer, Sender}
@@ -15,7 +15,6 @@ use Rattle.window.specs.Events.{fresh, start as packetStart}
 use Rattle.window.proofs.InFlight.{All}
 use Rattle.dlc_pair.specs.World.{count, End, World, freshEnd, initial}
 use Rattle.dlc_pair.specs.History.{relined}
-use Rattle.dlc_pair.specs.Demand3.{Never}
 use Rattle.dlc_pair.proofs.Codec.{encode, Sound}
 
 -- an end follows one of the packet system, of which a link can hold the model

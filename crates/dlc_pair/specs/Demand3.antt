@@ -2,21 +2,16 @@
 --
 -- The theorem: for every type of links with a view v, all links l, l′ with v l ≡ opened and v l′ ≡ opened, every list of events es and every
 -- history h of it from `initial l l′`: Demand3 v es (initial l l′) h. It is stated of `Link` and of the link that C programs hold.
-use Prim.Native.Nat.{ℕ, _+_, _*_, _≤_}
-use mathlib.Core.Logic.{_≢_}
-use mathlib.Core.List.{List, [], _∷_, IsPrefix}
+use Prim.Native.Nat.{_+_, _*_, _≤_}
+use mathlib.Core.List.{List, IsPrefix}
 use lib.ListN.{length}
 use Rattle.dlc_table.specs.Answers.{badLink}
 use Rattle.dlc_table.specs.Model.{Model}
 use Rattle.dlc.specs.Limits.{slots}
+use Rattle.dlc_run.specs.Replies.{Never}
 use Rattle.window.specs.Sides.{left, right}
 use Rattle.dlc_pair.specs.World.{End, World, dataSent}
 use Rattle.dlc_pair.specs.History.{Event, History, final, TimerWaits}
-
--- no number of the list is this one
-abbrev pub Never : ℕ → List ℕ → Type 0
-Never c [] = Unit {0}
-Never c (x ∷ xs) = (x ≢ c) × Never c xs
 
 -- from a sender to its receiver:
 --   prefix   the payloads delivered are an initial part of those accepted, in order, empty ones too

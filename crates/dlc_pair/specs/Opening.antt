@@ -3,11 +3,10 @@ use mathlib.Core.Path.{_≡_}
 use mathlib.Core.List.{List, [], _∷_}
 use Rattle.dlc_table.specs.Answers.{badLink}
 use Rattle.dlc_table.specs.Model.{Model}
-use Rattle.dlc_run.specs.Replies.{Octets, Packets}
+use Rattle.dlc_run.specs.Replies.{Octets, Packets, Never}
 use Rattle.window.specs.Sides.{left, right}
 use Rattle.dlc_pair.specs.World.{End, dataSent}
 use Rattle.dlc_pair.specs.History.{start, timer, arrival, Event}
-use Rattle.dlc_pair.specs.Demand3.{Never}
 
 -- the left end is started and its timer sends RESET; RESET arrives at the right end, which answers RESET_ACK; that arrives at the left end.
 -- Each call with a reply buffer of its own

@@ -1,5 +1,5 @@
 -- The queue: "the queue holds at most 7 payloads, oldest first, and freed places are used again". A place is a slot here.
--- Cited by dlc_queue's functions and by the specs of the link. Assumes nothing.
+-- Cited by dlc_queue's and dlc_send's functions and by the specs of the link. Assumes nothing.
 --
 --   payloads q     the payloads that a queue holds; octets past a payload's length and slots past the count are free, and no part of it
 --   held q         how many they are

@@ -11,8 +11,8 @@ use Rattle.dlc_table.specs.Model.{Model, rebuilt, inState, fresh, opened}
 use Rattle.dlc_table.specs.Events.{refuse, startOf, timerOf, payloadOf, arrivalOf}
 use Rattle.dlc_table.specs.Runs.{Event, start, timer, payload, arrival}
 use Rattle.dlc_answer.specs.declared.Answer.{Answer}
-use Rattle.dlc_run.specs.Replies.{Octets, Packets, isData, isDack, packetsIn, Reply, acceptedBy, deliveredBy}
-use Rattle.dlc_run.specs.Runs.{Contract, History, final, Observed, bufferOf, observedBy, observedOf, tableTrace, NeverAnswered}
+use Rattle.dlc_run.specs.Replies.{Octets, Packets, isData, isDack, packetsIn, Reply, acceptedBy, deliveredBy, Never}
+use Rattle.dlc_run.specs.Runs.{Contract, History, final, Observed, bufferOf, observedBy, observedOf, tableTrace, codes}
 
 -- ---- packets
 -- 4x is DATA whatever x is, 5x is DACK, RESET is neither
@@ -76,7 +76,7 @@ module _ {L : Type 0} (v : L → Model) (l : L) where
   observed-nothing-sent e g z = rw z
 
 -- a list where a number was answered is none where it never was
-pub answered-once : (t : Observed) → NeverAnswered (t .code) (t ∷ []) → ⊥
+pub answered-once : (t : Observed) → Never (t .code) (codes (t ∷ [])) → ⊥
 answered-once t n = n .0 refl
 
 -- ---- what the table says

@@ -17,8 +17,8 @@ use Rattle.dlc_queue.specs.Queue.{slots}
 use Rattle.dlc_answer.specs.declared.Answer.{Answer}
 use Rattle.dlc_answer.specs.Delivered.{deliveredPart}
 use Rattle.dlc.specs.Calls.{Meets, answerOf}
-use Rattle.dlc_run.specs.Replies.{Octets, Reply}
-use Rattle.dlc_run.specs.Runs.{Contract, nextLink, History, final, packetOf, bufferOf, observedBy, trace, observedOf, tableTrace, NeverAnswered}
+use Rattle.dlc_run.specs.Replies.{Octets, Reply, Never}
+use Rattle.dlc_run.specs.Runs.{Contract, nextLink, History, final, packetOf, bufferOf, observedBy, trace, observedOf, tableTrace, codes}
 use Rattle.dlc_run.proofs.Copied.{copiedBy-packets}
 
 -- the payload delivered by the answer is that of the table
@@ -27,7 +27,7 @@ shown true q = refl
 shown false q = refl
 
 -- of a well-formed link the table never says 27
-pub tableTrace-never : (limit : ℕ) (es : List Event) (m : Model) → m .ok ≡ true → NeverAnswered badLink (tableTrace limit es m)
+pub tableTrace-never : (limit : ℕ) (es : List Event) (m : Model) → m .ok ≡ true → Never badLink (codes (tableTrace limit es m))
 tableTrace-never limit [] m ok = tt
 tableTrace-never limit (e ∷ es) m ok = (never-badLink limit e m ok, tableTrace-never limit es (effectOf limit e m .after) (effect-keeps limit e m ∙ ok))
 
@@ -73,7 +73,7 @@ module _ {L : Type 0} (v : L → Model) where
   final-by-the-table (e ∷ es) l h = final-by-the-table es (nextLink v e l (h .0)) (h .1) ∙ ap (modelAfter slots es) (link-by-the-table e l (h .0))
 
   -- ---- a well-formed link
-  pub run-formed : (es : List Event) (l : L) (h : History v es l) → v l .ok ≡ true → (v (final v es l h) .ok ≡ true) × NeverAnswered badLink (trace v es l h)
+  pub run-formed : (es : List Event) (l : L) (h : History v es l) → v l .ok ≡ true → (v (final v es l h) .ok ≡ true) × Never badLink (codes (trace v es l h))
   run-formed es l h ok = (
     ap (λ (m : Model). m .ok) (final-by-the-table es l h) ∙ run-keeps slots es (v l) ∙ ok,
     rw (run-by-the-table es l h) (tableTrace-never slots es (v l) ok),

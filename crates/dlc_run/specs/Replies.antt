@@ -1,5 +1,6 @@
 -- What a call on a link gave back, and what its caller makes of it. Cited by lists of events at one end (Runs) and at two ends (dlc_pair). Assumes nothing.
 use Prim.Native.Nat.{ℕ, zero, suc, _/_}
+use mathlib.Core.Logic.{_≢_}
 use mathlib.Core.Bool.{Bool, false, cond, _&&_}
 use mathlib.Core.List.{List, [], _∷_}
 use lib.ListN.{take, drop}
@@ -52,3 +53,9 @@ acceptedBy p a = cond (eqb (a .code) done) (p ∷ []) []
 -- "handed up, those shown where arriving DATA was answered 0"
 abbrev pub deliveredBy : Octets → Answer → Packets
 deliveredBy q a = cond (isData q && eqb (a .code) done) (deliveredPart (a .delivered) q ∷ []) []
+
+-- ---- the numbers that calls answered
+-- no number of the list is this one
+abbrev pub Never : ℕ → List ℕ → Type 0
+Never c [] = Unit {0}
+Never c (x ∷ xs) = (x ≢ c) × Never c xs

@@ -4,13 +4,12 @@
 --   final v es l h         the link after them
 --   trace v es l h         what the caller observes, call by call, and the link as it was seen after each
 --   tableTrace limit es m  what the step table says of the same
---   NeverAnswered c ts     no call answered the number c
+--   codes ts               the numbers answered
 --
 -- v is the view of the links that the calls take: `view` of `Link`, or that of the link in plain numbers.
 use Prim.Native.Nat.{ℕ}
-use mathlib.Core.Logic.{_≢_}
 use mathlib.Core.Bool.{Bool, cond}
-use mathlib.Core.List.{List, [], _∷_, flatten}
+use mathlib.Core.List.{List, [], _∷_, map, flatten}
 use lib.ListN.{drop}
 use Rattle.common.specs.Buffer.{withFront}
 use Rattle.dlc_table.specs.Model.{Model}
@@ -96,7 +95,6 @@ abbrev pub tableTrace : ℕ → List Event → Model → List Observed
 tableTrace limit [] m = []
 tableTrace limit (e ∷ es) m = observedOf e (effectOf limit e m) ∷ tableTrace limit es (effectOf limit e m .after)
 
--- no call of the list answered this number
-abbrev pub NeverAnswered : ℕ → List Observed → Type 0
-NeverAnswered c [] = Unit {0}
-NeverAnswered c (t ∷ ts) = (t .code ≢ c) × NeverAnswered c ts
+-- the numbers that the calls answered
+abbrev pub codes : List Observed → List ℕ
+codes ts = map (λ (t : Observed). t .code) ts
