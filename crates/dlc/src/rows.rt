@@ -13,6 +13,7 @@ use crate::Outcome;
 use crate::is_open;
 use crate::open_state;
 use crate::send_control;
+use crate::send_one;
 use crate::silent;
 use dlc_answer::Answer;
 use dlc_table::DONE;
@@ -138,13 +139,17 @@ impl Link {
         self.in_state(State::Wait)
     }
 
-    // A payload at an open link with room for it: queue. It is lent the reply buffer as every row is, and sends nothing.
+    // A payload at an open link with room for it: queue, and send it at once, with the number behind those of the others. The timer repeats it
+    // with them.
     pub(crate) fn queue(mut self, p: &[u8], reply: &mut [u8]) -> Outcome
         requires { ⌜ (wellFormed self ≡ true) × ((held (self .queue) < slots) × ((length (now p) ≤ maxPayload) × (replySize ≤ length (now reply)))) ⌝ }
         ensures { λ r. ⌜ Meets view (queued (view self) (now (p .entry))) self (now (reply .entry)) (now (reply .exit)) (r .link) (r .answer) ⌝ }
     {
+        let old = self.queue;
+        let n = old.len();
+        let x = dlc_packet::advanced(self.base, n as u8);
         self = self.with_payload(p);
-        silent(self, DONE)
+        send_one(self, DONE, false, false, dlc_packet::DATA + x, p, reply)
     }
 
     // The timer while payloads wait: send all.

@@ -53,21 +53,20 @@ offered ps = map (λ (p : Octets). at left (payload p buffer)) ps
 abbrev arrivals : ℕ → Side → List Event
 arrivals n d = replicate n (at d (arrival buffer))
 
--- as many payloads as there are slots are offered, sent, delivered and acknowledged
+-- as many payloads as there are slots are offered, each sent as it is accepted, and delivered and acknowledged; no timer is called
 abbrev wholeRound : ℕ → List Event
-wholeRound n = offered (payloadsFrom slots n) ++ (at left (timer buffer) ∷ []) ++ arrivals slots right ++ arrivals slots left
+wholeRound n = offered (payloadsFrom slots n) ++ arrivals slots right ++ arrivals slots left
 
--- the queue is filled; then 22, 26, 21, 26 are answered and an arrival finds nothing. All are sent and the third is lost; two are delivered.
--- Those that are left are sent again, and the first is refused by a short buffer: 26, lost. They are sent once more and delivered, and
--- a last timer call answers 24
+-- the queue is filled, each payload sent as it is accepted; then 22, 26, 21 are answered and an arrival finds nothing. The third is lost; two are
+-- delivered. With the line drained a timer call answers 26; the next sends those that are left again, and the first is refused by a short buffer:
+-- 26, lost. They are sent once more and delivered, and a last timer call answers 24
 abbrev lossyRound : List Event
 lossyRound =
     offered (payloadsFrom slots 1)
     ++ (at left (payload (9 ∷ []) buffer) ∷ at left (payload (9 ∷ []) []) ∷ [])
-    ++ (at left (payload (replicate (maxPayload + 1) 9) buffer) ∷ at left (timer []) ∷ at left (arrival buffer) ∷ [])
-    ++ (at left (timer buffer) ∷ at left (loss 2) ∷ at left (loss 50) ∷ [])
+    ++ (at left (payload (replicate (maxPayload + 1) 9) buffer) ∷ at left (arrival buffer) ∷ at left (loss 2) ∷ at left (loss 50) ∷ [])
     ++ arrivals (slots - 1) right ++ arrivals (slots - 1) left
-    ++ (at left (timer buffer) ∷ at right (arrival []) ∷ [])
+    ++ (at left (timer []) ∷ at left (timer buffer) ∷ at right (arrival []) ∷ [])
     ++ arrivals (slots - 3) right ++ arrivals (slots - 3) left
     ++ (at left (timer buffer) ∷ [])
     ++ arrivals (slots - 2) right ++ arrivals (slots - 2) left
@@ -76,7 +75,7 @@ lossyRound =
 abbrev pub workedEvents : List Event
 workedEvents = lossyRound ++ wholeRound (slots + 1) ++ wholeRound (2 * slots + 1)
 
-pub worked-length : length workedEvents ≡ 13 * slots + 2
+pub worked-length : length workedEvents ≡ 13 * slots - 1
 worked-length = refl
 
 -- as many payloads as three queues hold are accepted and delivered. 2 packets are lost, and all of the first queue but two payloads is sent three
@@ -105,11 +104,12 @@ worked v l l′ e e′ h =
       waits = waited simulates v l l′ e e′ workedEvents h left tt;
     }
 
--- ---- a full queue is sent and the first is lost; the others are answered by 25, and all are sent again: the bound is met, so it cannot be lowered
+-- ---- the queue is filled, each payload sent as it is accepted, and the first is lost; the others are answered by 25, and the timer sends all again:
+-- the bound is met, so it cannot be lowered
 abbrev pub tightEvents : List Event
 tightEvents =
     offered (payloadsFrom slots 1)
-    ++ (at left (timer buffer) ∷ at left (loss 0) ∷ [])
+    ++ (at left (loss 0) ∷ [])
     ++ arrivals (slots - 1) right ++ arrivals (slots - 1) left
     ++ (at left (timer buffer) ∷ [])
 
@@ -126,16 +126,16 @@ tight v l l′ e e′ h =
       waits = waited simulates v l l′ e e′ tightEvents h left tt;
     }
 
--- ---- both ends send. The left end's timer is called twice while the right end's DATA is on the line, and its premise holds: it asks for none of
--- its own DATA and no DACK to it, and nothing else. Its first DATA is lost
+-- ---- both ends send, and each end's DATA is lost once. Each timer is called while the other end's DATA is on the line, and its premise holds: it
+-- asks for none of its own DATA and no DACK to it, and nothing else
 abbrev pub duplexEvents : List Event
 duplexEvents =
     at left (payload (1 ∷ []) buffer)
     ∷ at right (payload (2 ∷ []) buffer)
-    ∷ at right (timer buffer)
-    ∷ at left (timer buffer)
     ∷ at left (loss 0)
     ∷ at left (timer buffer)
+    ∷ at right (loss 0)
+    ∷ at right (timer buffer)
     ∷ at right (arrival buffer)
     ∷ at left (arrival buffer)
     ∷ at left (arrival buffer)
@@ -147,8 +147,8 @@ pub record Duplex {L : Type 0} (v : L → Model) (l l′ : L) (h : History v dup
   pub rightToLeft : final v duplexEvents (initial l l′) h .left .delivered ≡ (2 ∷ []) ∷ []
   pub leftSent : dataSent (final v duplexEvents (initial l l′) h .left) ≡ 2
   pub leftLost : final v duplexEvents (initial l l′) h .left .lost ≡ 1
-  pub rightSent : dataSent (final v duplexEvents (initial l l′) h .right) ≡ 1
-  pub rightLost : final v duplexEvents (initial l l′) h .right .lost ≡ 0
+  pub rightSent : dataSent (final v duplexEvents (initial l l′) h .right) ≡ 2
+  pub rightLost : final v duplexEvents (initial l l′) h .right .lost ≡ 1
   pub leftWaits : TimerWaits v left duplexEvents (initial l l′) h
   pub rightWaits : TimerWaits v right duplexEvents (initial l l′) h
 

@@ -105,8 +105,8 @@ one x = x ∷ replicate 256 99
 abbrev two : ℕ → ℕ → Octets
 two x y = x ∷ y ∷ replicate 255 99
 
--- a fresh link is started, its timer sends RESET, RESET_ACK opens it; a payload is queued, a second is refused, the timer sends the first and a DACK
--- takes it off; DATA that arrives is delivered and answered with a DACK, and the same again is answered only; RESET clears the link
+-- a fresh link is started, its timer sends RESET, RESET_ACK opens it; a payload is queued and sent, a second is refused, the timer sends the first
+-- again and a DACK takes it off; DATA that arrives is delivered and answered with a DACK, and the same again is answered only; RESET clears the link
 abbrev events : List Event
 events =
     start buffer
@@ -139,7 +139,7 @@ pub table-trace : tableTrace places events fresh
     ≡ observed done [] buffer [] (inState Reset fresh)
     ∷ observed done ((0x10 ∷ []) ∷ []) (one 0x10) [] (inState Reset fresh)
     ∷ observed done [] buffer [] opened
-    ∷ observed done [] buffer [] waiting
+    ∷ observed done ((0x40 ∷ 7 ∷ []) ∷ []) (two 0x40 7) [] waiting
     ∷ observed queueFull [] buffer [] waiting
     ∷ observed done ((0x40 ∷ 7 ∷ []) ∷ []) (two 0x40 7) [] waiting
     ∷ observed done [] buffer [] emptied

@@ -114,13 +114,13 @@ pub timer-none : timerOf places opened room ≡ refuse opened noEntry
 unfolding timerOf
 timer-none = refl
 
--- ---- payload: queue; nothing is sent
-pub payload-to-wait : payloadOf places opened (7 ∷ []) room ≡ effect done [] (rebuilt opened Wait ((7 ∷ []) ∷ []) 0 0)
+-- ---- payload: queue, and send it alone, with the number behind those of the others
+pub payload-to-wait : payloadOf places opened (7 ∷ []) room ≡ effect done ((0x40 ∷ 7 ∷ []) ∷ []) (rebuilt opened Wait ((7 ∷ []) ∷ []) 0 0)
 unfolding payloadOf
 payload-to-wait = refl
 
 pub payload-behind : payloadOf places waiting (7 ∷ []) room
-    ≡ effect done [] (rebuilt waiting Wait ((1 ∷ []) ∷ (2 ∷ []) ∷ (7 ∷ []) ∷ []) 14 3)
+    ≡ effect done ((0x40 ∷ 7 ∷ []) ∷ []) (rebuilt waiting Wait ((1 ∷ []) ∷ (2 ∷ []) ∷ (7 ∷ []) ∷ []) 14 3)
 unfolding payloadOf
 payload-behind = refl
 
@@ -154,7 +154,7 @@ pub arrival-ill-formed : (m : Model) → m .ok ≡ false → arrivalOf places m 
 unfolding arrivalOf
 arrival-ill-formed m e = rw e
 
--- ---- a list of events: a fresh link is started, its timer sends RESET, RESET_ACK opens it, a payload is queued and the timer sends it
+-- ---- a list of events: a fresh link is started, its timer sends RESET, RESET_ACK opens it, a payload is queued and sent, and the timer sends it again
 abbrev buffer : List ℕ
 buffer = replicate room 0
 
@@ -165,7 +165,8 @@ pub run-codes : map (λ (d : Effect). d .code) (effects places events fresh) ≡
 unfolding startOf timerOf payloadOf arrivalOf
 run-codes = refl
 
-pub run-packets : flatten (map (λ (d : Effect). d .packets) (effects places events fresh)) ≡ resetPacket ∷ dataPacket 0 (7 ∷ []) ∷ []
+pub run-packets : flatten (map (λ (d : Effect). d .packets) (effects places events fresh)) 
+    ≡ resetPacket ∷ dataPacket 0 (7 ∷ []) ∷ dataPacket 0 (7 ∷ []) ∷ []
 unfolding startOf timerOf payloadOf arrivalOf flatten
 run-packets = refl
 

@@ -11,7 +11,7 @@ use lib.ListN.{length, drop}
 use lib.Dec.{leb, ltb, eqb}
 use Rattle.common.specs.Refusals.{Refusal, guarded}
 use Rattle.dlc_packet.specs.Numbers.{advance, dackNumber, distance}
-use Rattle.dlc_packet.specs.Packet.{maxPayload, maxPacket, resetPacket, resetAckPacket, dackPacket, dataPackets, kindOf}
+use Rattle.dlc_packet.specs.Packet.{maxPayload, maxPacket, resetPacket, resetAckPacket, dackPacket, dataPacket, dataPackets, kindOf}
 use Rattle.dlc_packet.specs.declared.Kind.{Kind}
 use Rattle.dlc_packet.specs.declared.Kind.the-variants.{Invalid, Reset as ResetKind, ResetAck, Data as DataKind, Dack}
 use Rattle.dlc_table.specs.Answers.{done, notOpen, payloadTooLong, queueFull, badPacket, noEntry, otherNumber, replyTooSmall, badLink}
@@ -116,12 +116,17 @@ timerStep m Data = refuse m noEntry
 timerStep m Wait = effect done (dataPackets (m .base) (m .queue)) m
 
 -- ---- payload
--- queue: the payload behind the others, to DLDWAIT; "queueing by itself sends nothing"
+-- queue: the payload behind the others, to DLDWAIT
 abbrev pub withPayload : Model → List ℕ → Model
 withPayload m p = rebuilt m Wait (m .queue ++ (p ∷ [])) (m .base) (m .expected)
 
+-- the number of the next payload: that of the oldest, and one more for each that is queued
+abbrev pub nextNumber : Model → ℕ
+nextNumber m = advance (m .base) (length (m .queue))
+
+-- "an accepted payload is now sent at once as DATA with its own number, besides being queued" (2026-03)
 abbrev pub queued : Model → List ℕ → Effect
-queued m p = effect done [] (withPayload m p)
+queued m p = effect done (dataPacket (nextNumber m) p ∷ []) (withPayload m p)
 
 -- DLDATA and DLDWAIT are open
 abbrev pub isOpen : State → Bool
