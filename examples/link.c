@@ -99,14 +99,13 @@ static void open_link(end *here, end *there)
     arrival(here, there->reply, 1);
 }
 
-/* Two payloads, of which the second is lost on its first way; the DACKs go back as they come. */
+/* Two payloads, each sent as it is queued; the second is lost, and the timer sends it again. The DACKs go back as they come. */
 static void exchange(end *here, end *there)
 {
     static const uint8_t first[] = {'h', 'i'};
     payload(here, first, sizeof first);
-    payload(here, first, 0);
-    timer(here);
     arrival(there, here->reply, 3);
+    payload(here, first, 0);
     arrival(here, there->reply, 1);
     timer(here);
     arrival(there, here->reply, 1);
@@ -115,7 +114,8 @@ static void exchange(end *here, end *there)
     arrival(here, there->reply, 1);
 }
 
-/* As many payloads are queued as there are slots, and one more is not; 256 octets pass, 257 do not; the timer fills the reply buffer. */
+/* As many payloads are queued and sent as there are slots, and one more is not; 256 octets pass, 257 do not; the timer sends all again and
+ * fills the reply buffer. */
 static void limits(end *e)
 {
     static uint8_t big[HASFANDUR_DLC_MAX_PAYLOAD + 1];
@@ -127,10 +127,11 @@ static void limits(end *e)
     timer(e);
 }
 
-/* Worked on paper: with numbers 14 and 15 queued DACK 1 is refused, and DACK 0 empties the queue. */
+/* Worked on paper: with numbers 14 and 15 queued DACK 1 is refused, and DACK 0 empties the queue. One payload more is sent with the number 0,
+ * and then it is DACK 1 that empties the queue. */
 static void restart(void)
 {
-    static const uint8_t dack_1[] = {HASFANDUR_DLC_DACK + 1}, dack_0[] = {HASFANDUR_DLC_DACK}, data_15[] = {HASFANDUR_DLC_DATA + 15};
+    static const uint8_t dack_1[] = {HASFANDUR_DLC_DACK + 1}, dack_0[] = {HASFANDUR_DLC_DACK}, data_15[] = {HASFANDUR_DLC_DATA + 15}, next[] = {'x'};
     end e = fresh("14 and 15 queued");
     e.link.state = HASFANDUR_DLC_STATE_WAIT;
     e.link.queue.count = 2;
@@ -138,10 +139,14 @@ static void restart(void)
     e.link.queue.slots[1].length = 1;
     e.link.base = 14;
     e.link.expected = 15;
+    end more = e;
+    more.name = "14, 15 and one more";
     arrival(&e, dack_1, 1);
     arrival(&e, dack_0, 1);
     arrival(&e, data_15, 1);
     arrival(&e, data_15, 1);
+    payload(&more, next, 1);
+    arrival(&more, dack_1, 1);
 }
 
 /* Each event at an ill-formed link with a small reply buffer, then with that buffer alone, then without either. */
@@ -184,6 +189,7 @@ static void zeroed(void)
     timer(&e);
     arrival(&e, reset, sizeof reset);
     payload(&e, NULL, 0);
+    memset(e.reply, UNTOUCHED, sizeof e.reply);
     take(&e, "timer", hasfandur_dlc_timer(e.link, NULL, 0));
 }
 

@@ -24,8 +24,8 @@ extern "C" {
 
 /* The version, and the same as one number to compare: 10000 for the first part, 100 for the second. */
 /* begin version: written by include/numbers */
-#define HASFANDUR_VERSION "0.5.0"
-#define HASFANDUR_VERSION_NUMBER 500
+#define HASFANDUR_VERSION "0.6.0"
+#define HASFANDUR_VERSION_NUMBER 600
 /* end version */
 
 /* On calls that give a state or a link back: who drops it goes on with the old one. */
@@ -333,7 +333,8 @@ HASFANDUR_MUST_USE hasfandur_dlc_outcome hasfandur_dlc_start(hasfandur_dlc_link 
 HASFANDUR_MUST_USE hasfandur_dlc_outcome hasfandur_dlc_timer(hasfandur_dlc_link link, uint8_t *reply, size_t reply_length);
 
 /*
- * A payload to be sent, which may be empty: it is queued, and the state is HASFANDUR_DLC_STATE_WAIT. The timer sends it.
+ * A payload to be sent, which may be empty: it is queued, the state is HASFANDUR_DLC_STATE_WAIT, and it is sent at once as DATA
+ * (4x, x its number: `base` and the payloads queued before it, modulo 16), one packet. The timer sends it again, with the others.
  * HASFANDUR_DLC_PAYLOAD_TOO_LONG; HASFANDUR_DLC_NOT_OPEN (in HASFANDUR_DLC_STATE_IDLE and HASFANDUR_DLC_STATE_RESET);
  * HASFANDUR_DLC_QUEUE_FULL.
  */
