@@ -92,11 +92,7 @@ impl Link {
         self.event(reply, |link| match link.mode {
             Mode::Reset => Ok(Step::to(link, vec![vec![RESET]])),
             Mode::Wait => {
-                let packet = |(i, p): (usize, &Vec<u8>)| {
-                    let number = (usize::from(link.oldest) + i) % 16;
-                    [&[DATA | number as u8], &p[..]].concat()
-                };
-                let packets = link.queue.iter().enumerate().map(packet).collect();
+                let packets = (0..link.queue.len()).map(|place| link.data(place)).collect();
                 Ok(Step::to(link, packets))
             }
             _ => Err(24),
@@ -115,7 +111,8 @@ impl Link {
                 return Err(22);
             }
             link.queue.push(payload.to_vec());
-            Ok(Step::to(link.in_mode(Mode::Wait), vec![]))
+            let packet = link.data(link.queue.len() - 1);
+            Ok(Step::to(link.in_mode(Mode::Wait), vec![packet]))
         })
     }
 
@@ -134,6 +131,12 @@ impl Link {
                 _ => Err(23),
             }
         })
+    }
+
+    /// The DATA of a place of the queue. "Places count up from the oldest number, and DATA carries its place's number."
+    fn data(&self, place: usize) -> Vec<u8> {
+        let number = (usize::from(self.oldest) + place) % 16;
+        [&[DATA | number as u8], &self.queue[place][..]].concat()
     }
 
     fn in_mode(self, mode: Mode) -> Self {

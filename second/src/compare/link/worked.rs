@@ -1,5 +1,6 @@
-//! A worked run at two open ends: a full queue, each refusal, a loss and its repeat, a loss by too small a reply buffer, and
-//! as many payloads as make the numbers restart. Its counts follow from the queue's limit alone.
+//! A worked run at two open ends: a full queue, each payload sent as it is accepted, each refusal, a loss and its repeat, a
+//! loss by too small a reply buffer, and as many payloads as make the numbers restart. Its counts follow from the queue's
+//! limit alone.
 use super::super::tally::Tally;
 use super::call::Event;
 use super::ends::{fresh_end, Ends};
@@ -41,13 +42,12 @@ fn script() -> Vec<Step> {
         payload(QUEUE + 1),
         ("payload, small reply buffer", 1, Act::Payload(3, REPLY - 1)),
         ("payload too long", 1, Act::Payload(PAYLOAD + 1, REPLY)),
-        ("timer, small reply buffer", 1, Act::Timer(REPLY - 1)),
         ("arrival, nothing on the line", 1, Act::Arrival(LEFT, REPLY)),
-        timer,
         ("the third DATA is lost", 1, Act::Loss(2)),
         ("a loss where there is no packet", 1, Act::Loss(QUEUE)),
     ];
     steps.extend(arrive(QUEUE - 1));
+    steps.push(("timer, small reply buffer", 1, Act::Timer(REPLY - 1)));
     steps.push(timer);
     steps.push((
         "arrival, small reply buffer",
@@ -59,7 +59,7 @@ fn script() -> Vec<Step> {
     steps.extend(arrive(QUEUE - 2));
     steps.push(("timer, nothing queued", 1, Act::Timer(REPLY)));
     for _ in 0..2 {
-        steps.extend([payload(QUEUE), timer]);
+        steps.push(payload(QUEUE));
         steps.extend(arrive(QUEUE));
     }
     steps
