@@ -165,7 +165,7 @@ pub run-codes : map (λ (d : Effect). d .code) (effects places events fresh) ≡
 unfolding startOf timerOf payloadOf arrivalOf
 run-codes = refl
 
-pub run-packets : flatten (map (λ (d : Effect). d .packets) (effects places events fresh)) 
+pub run-packets : flatten (map (λ (d : Effect). d .packets) (effects places events fresh))
     ≡ resetPacket ∷ dataPacket 0 (7 ∷ []) ∷ dataPacket 0 (7 ∷ []) ∷ []
 unfolding startOf timerOf payloadOf arrivalOf flatten
 run-packets = refl
