@@ -1,6 +1,6 @@
 -- Demand 3 of the two types of links: `Link`, and the link in plain numbers that C programs hold, where the calls are what the exported functions
--- ensure. Each is the theorem of every view, at this one; so are `progress`, `recovers`, `opening` and the worked runs, which need no value of
--- the type. Assumes nothing.
+-- ensure. Each is the theorem of every view, at this one; so are `without-loss`, `progress`, `recovers`, `opening` and the worked runs, which need
+-- no value of the type. Assumes nothing.
 use mathlib.Core.Path.{_≡_}
 use mathlib.Core.Bool.{true}
 use mathlib.Core.List.{List}

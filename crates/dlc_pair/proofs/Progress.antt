@@ -1,10 +1,11 @@
--- Progress and recovery, from every world that a history reaches, of whatever rules and models the step table simulates. They stand last; Theorems
--- states them of this link. Assumes nothing.
+-- What is delivered without a loss, progress and recovery, from every world that a history reaches, of whatever rules and models the step table
+-- simulates. They stand last; Theorems states them of this link. Assumes nothing.
 use Prim.Native.Nat.{ℕ, zero, suc, _+_, _≤_}
 use native.Mathlib.Omega.{arith}
 use mathlib.Core.Path.{_≡_, refl, sym, ap, subst, _∙_}
 use mathlib.Core.Bool.{Bool, true, not}
 use mathlib.Core.List.{List, [], _∷_, _++_, map, map-append}
+use lib.Dec.{T}
 use lib.ListN.{length, replicate, length-replicate, length-map}
 use borrow.Author.Tests.{le-ltb}
 use Rattle.dlc_table.specs.Model.{Model}
@@ -14,15 +15,15 @@ use Rattle.window.specs.Sides.{Side, left, right, opposite, Both, endAt}
 use Rattle.window.specs.Packets.{Packet}
 use Rattle.window.specs.Ends.{Rules, Lawful, End as Peer}
 use Rattle.window.specs.Events.{timeout, receive, Event as PacketEvent, start as packetStart, run}
-use Rattle.window.specs.Claim.{exchange as packetExchange, Settled as PacketSettled, recovery as packetRecovery, Recovered as PacketRecovered}
-use Rattle.window.proofs.Progress.{progress as packets-progress, recovers as packets-recover}
+use Rattle.window.specs.Claim.{DrainedAt as PacketDrainedAt, exchange as packetExchange, Settled as PacketSettled, recovery as packetRecovery, Recovered as PacketRecovered}
+use Rattle.window.proofs.Progress.{without-loss as packets-without-loss, progress as packets-progress, recovers as packets-recover}
 use Rattle.dlc_pair.specs.World.{End, World}
-use Rattle.dlc_pair.specs.History.{Event, History, final}
-use Rattle.dlc_pair.specs.Progress.{Enough, AllEnough, arrivals, exchange, Settled, recovery, Recovered}
+use Rattle.dlc_pair.specs.History.{timer, Event, History, final}
+use Rattle.dlc_pair.specs.Progress.{DrainedAt, AllDelivered, Enough, AllEnough, arrivals, exchange, Settled, recovery, Recovered}
 use Rattle.dlc_pair.proofs.Codec.{encode}
-use Rattle.dlc_pair.proofs.Relation.{Follows, BothFollow}
+use Rattle.dlc_pair.proofs.Relation.{Follows, BothFollow, follow-mirror}
 use Rattle.dlc_pair.proofs.Simulates.{tooShort, Simulates}
-use Rattle.dlc_pair.proofs.Runs.{eventOf, runOf, run-follows}
+use Rattle.dlc_pair.proofs.Runs.{eventOf, runOf, waits-follow, run-follows}
 
 -- ---- the packet system's exchange
 enough-long : (b : Octets) → Enough b → not (tooShort b) ≡ true
@@ -75,6 +76,11 @@ end-follows : {modelOf : Peer → Model} {L : Type 0} {v : L → Model} (d : Sid
 end-follows left f = f .left
 end-follows right f = f .right
 
+-- as the timer's premise asks for it
+drained-follows : {modelOf : Peer → Model} {L : Type 0} {v : L → Model} (d : Side) {w : World L} {s : Both Peer} → BothFollow modelOf v w s → DrainedAt d w → PacketDrainedAt d s
+drained-follows left f h = waits-follow f (timer []) h
+drained-follows right f h = waits-follow (follow-mirror f) (timer []) h
+
 line-nil : {modelOf : Peer → Model} {L : Type 0} {v : L → Model} {e : End L} {a : Peer} → Follows modelOf v e a → e .line ≡ [] → a .line ≡ []
 line-nil {e} {a} f h = from-map (a .line) (sym (f .line) ∙ h)
   where
@@ -106,6 +112,16 @@ module _ {rules : Rules} {modelOf : Peer → Model} (table : Simulates rules mod
   }
 
   module _ (lawful : Lawful rules) {w : World L} (start : BothFollow modelOf v w packetStart) (es : List Event) (h : History v es w) where
+    -- where payloads are sent at once, nothing of an end was lost and nothing of it is on the line: whatever the timer did
+    pub without-loss-from : T (rules .atOnce) → (d : Side) → endAt d (final v es w h) .lost ≡ 0 → DrainedAt d (final v es w h) → AllDelivered v d (final v es w h)
+    without-loss-from t d z e =
+        let f : BothFollow modelOf v (final v es w h) (runOf rules es packetStart) = run-follows table es start h in
+        let p = packets-without-loss rules lawful t (map eventOf es) d (sym (end-follows d f .lost) ∙ z) (drained-follows d f e) in
+        record {
+          queue = queue-follows (end-follows d f) ∙ p .queue;
+          delivered = end-follows (opposite d) f .delivered ∙ p .delivered ∙ sym (end-follows d f .accepted);
+        }
+
     -- once both lines are empty: one timer call, at least as many arrivals at the other end as payloads are queued, and at least as many at this
     -- end; every reply buffer is large enough and nothing is lost
     pub progress-from : final v es w h .left .line ≡ [] → final v es w h .right .line ≡ [] → (d : Side) (b : Octets) (bs cs : List Octets)

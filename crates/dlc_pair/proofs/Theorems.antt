@@ -1,6 +1,6 @@
 -- What the theorems about two ends say of this link, beside demand 3: every list of events has a history, so that demand 3 is not about nothing;
--- and what waits is delivered, where nothing is lost (the theorem of whatever the step table simulates, at the rules of this link). Each from open
--- ends. Assumes nothing.
+-- what was accepted is delivered where nothing was lost, and what waits once nothing is lost any more (the theorems of whatever the step table
+-- simulates, at the rules of this link). Each from open ends. Assumes nothing.
 use Prim.Native.Nat.{ℕ, _≤_}
 use mathlib.Core.Path.{_≡_, sym, subst}
 use mathlib.Core.List.{List, []}
@@ -13,11 +13,11 @@ use Rattle.dlc_run.proofs.Existence.{Covers, value-of}
 use Rattle.window.specs.Sides.{Side, endAt}
 use Rattle.dlc_pair.specs.World.{initial}
 use Rattle.dlc_pair.specs.History.{Event, History, final}
-use Rattle.dlc_pair.specs.Progress.{Enough, AllEnough, exchange, Settled, recovery, Recovered}
+use Rattle.dlc_pair.specs.Progress.{DrainedAt, AllDelivered, Enough, AllEnough, exchange, Settled, recovery, Recovered}
 use Rattle.dlc_pair.proofs.Relation.{follow-initial}
 use Rattle.dlc_pair.proofs.Effects.{opened-fits, lawful, simulates}
 use Rattle.dlc_pair.proofs.Existence.{BothFit, run-fit, history-of}
-use Rattle.dlc_pair.proofs.Progress.{progress-from, recovers-from}
+use Rattle.dlc_pair.proofs.Progress.{without-loss-from, progress-from, recovers-from}
 
 module _ {L : Type 0} {v : L → Model} (covers : Covers v) where
   -- there is a link that stands open
@@ -35,6 +35,14 @@ module _ {L : Type 0} {v : L → Model} (covers : Covers v) where
   pub history-goes-on : (l l′ : L) → v l ≡ opened → v l′ ≡ opened → (es more : List Event) (h : History v es (initial l l′))
       → History v more (final v es (initial l l′) h)
   history-goes-on l l′ e e′ es more h = history-of covers more (run-fit es (open-ends l l′ e e′) h)
+
+-- where none of an end's DATA and no DACK to it was lost, and none is on the line, its queue is empty and all that it accepted is delivered: a
+-- payload is sent when it is accepted, and no timer need be called
+pub without-loss : {L : Type 0} (v : L → Model) (l l′ : L) → v l ≡ opened → v l′ ≡ opened → (es : List Event) (h : History v es (initial l l′)) (d : Side)
+    → endAt d (final v es (initial l l′) h) .lost ≡ 0
+    → DrainedAt d (final v es (initial l l′) h)
+    → AllDelivered v d (final v es (initial l l′) h)
+without-loss v l l′ e e′ es h = without-loss-from simulates lawful (follow-initial opened-fits l l′ e e′) es h tt
 
 -- once both lines are empty: one timer call, at least as many arrivals at the other end as payloads are queued, and at least as many at this
 -- end; every reply buffer is large enough and nothing is lost

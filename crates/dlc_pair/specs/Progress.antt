@@ -1,4 +1,5 @@
--- Progress and recovery: what is queued is delivered, once nothing is lost any more. Proved in proofs/Progress. Assumes nothing.
+-- What was accepted is delivered: where nothing was lost, without any timer call; and once nothing is lost any more (progress and recovery).
+-- Proved in proofs/Progress. Assumes nothing.
 use Prim.Native.Nat.{ℕ, _+_, _≤_}
 use mathlib.Core.Path.{_≡_}
 use mathlib.Core.List.{List, [], _∷_, _++_, map}
@@ -6,10 +7,22 @@ use lib.ListN.{length, replicate}
 use Rattle.dlc_table.specs.Model.{Model}
 use Rattle.dlc.specs.Limits.{replySize}
 use Rattle.dlc_run.specs.Replies.{Octets}
-use Rattle.window.specs.Sides.{Side, left, right, opposite, endAt}
+use Rattle.window.specs.Sides.{Side, left, right, opposite, mirror, endAt}
 use Rattle.dlc_pair.specs.World.{World}
-use Rattle.dlc_pair.specs.History.{timer, arrival, Event}
+use Rattle.dlc_pair.specs.History.{timer, arrival, Event, Drained}
 
+-- ---- without a loss
+-- none of this end's DATA is on the line, and no DACK to it
+abbrev pub DrainedAt : {L : Type 0} → Side → World L → Type 0
+DrainedAt left w = Drained w
+DrainedAt right w = Drained (mirror w)
+
+-- nothing is left in the queue of this end, and all that it accepted is delivered at the other
+pub record AllDelivered {L : Type 0} (v : L → Model) (d : Side) (w : World L) : Type 0 where
+  pub queue : v (endAt d w .link) .queue ≡ []
+  pub delivered : endAt (opposite d) w .delivered ≡ endAt d w .accepted
+
+-- ---- progress
 -- a reply buffer that no call refuses
 abbrev pub Enough : Octets → Type 0
 Enough before = replySize ≤ length before

@@ -11,7 +11,7 @@ use mathlib.Core.List.{List, [], _∷_, _++_}
 use native.Mathlib.Omega.{arith}
 use lib.ListN.{length}
 use Rattle.window.specs.Packets.{Payload, Payloads}
-use Rattle.window.proofs.Rising.{Chain, chain-raise, chain-snoc, lastOr, lastOr-snoc}
+use Rattle.window.proofs.Rising.{Chain, chain-raise, chain-++, chain-snoc, lastOr, lastOr-snoc}
 use Rattle.window.proofs.InFlight.{InFlight, sentNext, indices, indices-++, batch, batch-chain}
 
 -- with no DATA in flight, the last DACK on the way (or the base) acknowledges all that was sent
@@ -22,6 +22,11 @@ Answered (f ∷ fs) reached z = Unit {0}
 answered-snoc : (fs : List InFlight) (f : InFlight) (t z : ℕ) → Answered (fs ++ (f ∷ [])) t z
 answered-snoc [] f t z = tt
 answered-snoc (g ∷ fs) f t z = tt
+
+answered-more : (fs gs : List InFlight) (t z : ℕ) → Answered fs t z → Answered (fs ++ gs) t z
+answered-more [] [] t z h = h
+answered-more [] (g ∷ gs) t z h = tt
+answered-more (f ∷ fs) gs t z h = tt
 
 answered-batch : (c m z : ℕ) (q : Payloads) → c ≤ m + length q → m ≤ z → Answered (batch c m q) c z
 answered-batch c m z [] h k = omega arith
@@ -82,6 +87,19 @@ trail-send-all {accepted} {base} {received} q b e = record {
   chain = chain-raise base received (indices (batch accepted base q)) accepted b (rw e (batch-chain (base + length q) base q));
   last = answered-batch accepted base base q (omega arith) (omega arith);
 }
+
+-- whatever is on the line, a trail that leads to all that is accepted leads through it
+pub trail-send-again : {accepted base received : ℕ} {flight : List InFlight} {dacks : List ℕ} (q : Payloads) → accepted ≡ base + length q
+    → Trail accepted base received accepted flight dacks
+    → Trail accepted base received accepted (flight ++ batch accepted base q) dacks
+trail-send-again {accepted} {base} {received} {flight} {dacks} q e t =
+    let again = indices (batch accepted base q) in
+    let leads : Chain accepted again accepted = chain-raise base accepted again accepted (omega (arith, e)) (rw e (batch-chain (base + length q) base q)) in
+    record {
+      some = t .some;
+      chain = rw (indices-++ flight (batch accepted base q)) (chain-++ received (indices flight) accepted again accepted (t .chain) leads);
+      last = answered-more flight (batch accepted base q) accepted (lastOr base dacks) (t .last);
+    }
 
 -- nothing left in flight and no DACK on the way: all is acknowledged
 pub trail-end : {accepted base received reached : ℕ} → Trail accepted base received reached [] [] → reached ≤ base

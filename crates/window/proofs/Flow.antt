@@ -3,10 +3,11 @@
 --
 -- What the proof knows beside the state stands as a parameter: `acked` are the payloads that left the queue, `reached` is how many were sent
 -- at least once. What holds only on a condition stands under it: the count where the sender's timer has waited, the trail where since the
--- queue was last sent with the line drained no packet of this direction was lost and no payload queued that is not sent.
+-- queue was last sent with the line drained no packet of this direction was lost and no payload queued that is not sent; and the trail again
+-- where payloads are sent at once and no packet of this direction was ever lost.
 use Prim.Native.Nat.{ℕ, suc, _+_, _-_, _*_, _%_, _≤_, _<_}
 use mathlib.Core.Path.{_≡_, refl, sym, ap, subst, _∙_}
-use mathlib.Core.Logic.{inl, inr, _≢_}
+use mathlib.Core.Logic.{_⊎_, inl, inr, _≢_}
 use mathlib.Core.Bool.{Bool, true, false, not}
 use mathlib.Core.Option.{some}
 use mathlib.Core.List.{List, [], _∷_, _++_, append-assoc}
@@ -21,7 +22,7 @@ use Rattle.window.specs.Ends.{Rules, Sender, Receiver, queued, counted, 
 use Rattle.window.proofs.Rising.{rising-le}
 use Rattle.window.proofs.InFlight.{InFlight, sentNext, batch, prefix-snoc}
 use Rattle.window.proofs.Window.{InWindow, window-deliver, window-repeat, window-acknowledge, window-lose-data, window-lose-dack, window-agrees, window-dack, window-accept, window-send-one, window-send-all}
-use Rattle.window.proofs.Count.{Trail, trail-send-one, trail-deliver, trail-repeat, trail-acknowledge, trail-send-all, Count, count-bound, count-lose, count-accept, count-send-one, count-deliver, count-repeat, count-acknowledge, count-send-all}
+use Rattle.window.proofs.Count.{Trail, trail-send-one, trail-deliver, trail-repeat, trail-acknowledge, trail-send-all, trail-send-again, Count, count-bound, count-lose, count-accept, count-send-one, count-deliver, count-repeat, count-acknowledge, count-send-all}
 
 -- the two conditions, as the proof has collected them so far
 pub record Assumed : Type 1 where
@@ -61,6 +62,15 @@ placed-accept {acked} {queue} {y = y} p f = record {
 }
 
 module _ (r : Rules) where
+  -- where what is on the line leads to all that is accepted
+  abbrev pub Leads : Assumed → Sender → Type 0
+  Leads a x = a .intact ⊎ (T (r .atOnce) × (x .lost ≡ 0))
+
+  -- not behind a loss
+  lost-leads : (a : Assumed) (x : Sender) → Leads (unsure a) (lostOne x) → ⊥
+  lost-leads a x (inl u) = u
+  lost-leads a x (inr u) = omega (arith, u .1)
+
   pub record Flow (a : Assumed) (acked : Payloads) (reached : ℕ) (x : Sender) (y : Receiver) (flight : List InFlight) (dacks : List ℕ) : Type 0 where
     -- in whole numbers: where the halves stand, and what is in flight between them
     pub placed : Placed acked (x .queue) (x .accepted) (x .base) y
@@ -70,7 +80,7 @@ module _ (r : Rules) where
     -- DATA sent against payloads accepted and packets lost
     pub count : a .waited → Count (r .window) (length (x .accepted)) (length acked) (length (y .delivered)) reached flight dacks (x .sent) (x .lost)
     -- what is on the line leads to all that is accepted
-    pub trail : a .intact → Trail (length (x .accepted)) (length acked) (length (y .delivered)) (length (x .accepted)) flight dacks
+    pub trail : Leads a x → Trail (length (x .accepted)) (length acked) (length (y .delivered)) (length (x .accepted)) flight dacks
 
   module _ {a : Assumed} {acked : Payloads} {reached : ℕ} {x : Sender} {y : Receiver} {flight : List InFlight} {dacks : List ℕ} where
     pub flow-bound : Flow a acked reached x y flight dacks → a .waited → x .sent ≤ length (x .accepted) + r .window * x .lost
@@ -78,13 +88,17 @@ module _ (r : Rules) where
 
     pub flow-weaken : {b : Assumed} → (b .waited → a .waited) → (b .intact → a .intact) → Flow a acked reached x y flight dacks
         → Flow b acked reached x y flight dacks
-    flow-weaken g h f = record {
+    flow-weaken {b = b} g h f = record {
       placed = f .placed;
       window = f .window;
       once = f .once;
       count = λ u. f .count (g u);
-      trail = λ u. f .trail (h u);
+      trail = λ u. f .trail (leads u);
     }
+      where
+        leads : Leads b x → Leads a x
+        leads (inl u) = inl (h u)
+        leads (inr u) = inr u
 
     pub flow-length : Flow a acked reached x y flight dacks → length (x .accepted) ≡ length acked + length (x .queue)
     flow-length f = ap length (sym (f .placed .split)) ∙ length-append acked (x .queue)
@@ -97,9 +111,13 @@ module _ (r : Rules) where
       window = window-accept (r .window) p (omega (arith, flow-length f)) (f .window);
       once = λ u. absurd (T-not (r .atOnce) t u);
       count = λ u. rw (add-zero (x .sent), longer) (count-accept (r .window) (f .count u));
-      trail = λ u. absurd u;
+      trail = λ u. absurd (unsent u);
     }
       where
+        unsent : Leads (unsure a) (queued p 0 x) → ⊥
+        unsent (inl u) = u
+        unsent (inr u) = T-not (r .atOnce) t (u .0)
+
         longer : length (x .accepted ++ (p ∷ [])) ≡ suc (length (x .accepted))
         longer = omega (arith, length-append (x .accepted) (p ∷ []))
 
@@ -132,11 +150,17 @@ module _ (r : Rules) where
       once = λ u. refl;
       count = λ u. inl (rw (u .1, u .2, e)
           (count-send-all (r .window) (x .queue) behind (flow-length f) (omega (arith, f .window .room, flow-length f)) (rw (u .1, u .2) at (f .count (u .0)))));
-      trail = λ u. rw (u .0, u .1) (trail-send-all (x .queue) behind (flow-length f));
+      trail = led;
     }
       where
         behind : length acked ≤ length (y .delivered)
         behind = rising-le (length acked) dacks (length (y .delivered)) (f .window .acks)
+
+        led : Leads (sentOn a flight dacks) (counted n x)
+            → Trail (length (x .accepted)) (length acked) (length (y .delivered)) (length (x .accepted))
+            (flight ++ batch (length (x .accepted)) (length acked) (x .queue)) dacks
+        led (inl u) = rw (u .0, u .1) (trail-send-all (x .queue) behind (flow-length f))
+        led (inr u) = trail-send-again (x .queue) (flow-length f) (f .trail (inr u))
 
     -- with nothing queued and nothing on the line, all is acknowledged
     pub flow-idle : x .queue ≡ [] → flight ≡ [] → dacks ≡ [] → Flow a acked reached x y flight dacks
@@ -157,7 +181,7 @@ module _ (r : Rules) where
       window = window-lose-data (r .window) n (f .window);
       once = f .once;
       count = λ u. inr (count-lose (r .window) (f .count u));
-      trail = λ u. absurd u;
+      trail = λ u. absurd (lost-leads a x u);
     }
 
     pub flow-lose-dack : (n : ℕ) → Flow a acked reached x y flight dacks → Flow (unsure a) acked reached (lostOne x) y flight (eraseAt n dacks)
@@ -166,7 +190,7 @@ module _ (r : Rules) where
       window = window-lose-dack (r .window) n (f .window);
       once = f .once;
       count = λ u. inr (count-lose (r .window) (f .count u));
-      trail = λ u. absurd u;
+      trail = λ u. absurd (lost-leads a x u);
     }
 
   module _ {a : Assumed} {acked : Payloads} {reached : ℕ} {x : Sender} {y : Receiver} {flight : List InFlight} {dacks : List ℕ} where

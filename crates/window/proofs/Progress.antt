@@ -1,41 +1,43 @@
--- Progress: with nothing on the lines, one timer call, the arrivals of what it sent and the arrivals of the DACKs empty the queue, and all that
--- was accepted is delivered. Recovery: whatever is on the lines, arrivals and one exchange of each end deliver everything both ways. This rules
--- out ends that do nothing, or get stuck. The theorems stand last. Assumes nothing.
+-- Without a loss: where payloads are sent at once and nothing was lost, all that was accepted is delivered once the line is drained, whether the
+-- timer was called or not. Progress: with nothing on the lines, one timer call, the arrivals of what it sent and the arrivals of the DACKs empty
+-- the queue, and all that was accepted is delivered. Recovery: whatever is on the lines, arrivals and one exchange of each end deliver everything
+-- both ways. This rules out ends that do nothing, or get stuck. The theorems stand last. Assumes nothing.
 --
--- The invariant's trail does the work: it begins when all is sent on a drained line, arrivals keep it, and where nothing is left on the line
--- it says that all is acknowledged.
+-- The invariant's trail does the work: it begins when all is sent on a drained line, or with the first payload sent at once, arrivals keep it,
+-- and where nothing is left on the line it says that all is acknowledged.
 use Prim.Native.Nat.{ℕ, _+_, _≤_}
 use mathlib.Core.Path.{_≡_, sym, ap, _∙_}
+use mathlib.Core.Logic.{inl, inr}
 use mathlib.Core.Bool.{true}
 use mathlib.Core.List.{List, [], _++_, append-nil}
 use native.Mathlib.Omega.{arith}
+use lib.Dec.{T}
 use lib.ListN.{length, length-append, replicate}
 use Rattle.window.specs.Sides.{Side, left, right, Both, mirror, endAt}
 use Rattle.window.specs.Packets.{Payloads, countData, countDack}
 use Rattle.window.specs.Ends.{Rules, Lawful, End}
 use Rattle.window.specs.Events.{receive, Event, start, run, Drained, TimerWaits}
-use Rattle.window.specs.Claim.{exchange, Settled, recovery, Recovered}
+use Rattle.window.specs.Claim.{DrainedAt, AllDelivered, exchange, Settled, recovery, Recovered}
 use Rattle.window.proofs.Rising.{rising-le}
 use Rattle.window.proofs.Count.{trail-end}
 use Rattle.window.proofs.Marks.{dacksOf}
-use Rattle.window.proofs.Flow.{Assumed, assumed, flow-length}
+use Rattle.window.proofs.Flow.{Assumed, assumed, Leads, flow-length}
 use Rattle.window.proofs.Invariant.{Invariant, invariant-mirror, drained-marks}
 use Rattle.window.proofs.SlidingWindow.{invariant-run, invariant-start}
 use Rattle.window.proofs.Exchange.{nil-of, run-++, receives, run-left, run-right, exchange-mirror, Received, received-all, receives-dacks, invariant-receives, begun, Exchanged, exchanged}
 
 module _ (r : Rules) (law : Lawful r) where
   -- ---- nothing of the left end's on the lines, and the trail: all is acknowledged, and so all is delivered
-  settled : {b : Assumed} (z : Both End) → Invariant r (begun r law) b z → Drained z
-      → (z .left .sender .queue ≡ []) × (z .right .receiver .delivered ≡ z .left .sender .accepted)
-  settled z v d = (
-    nil-of (z .left .sender .queue) (omega (arith, flow-length r (v .leftFlow), acked)),
-    sym (append-nil (z .right .receiver .delivered))
+  all-delivered : {a b : Assumed} (z : Both End) → Invariant r a b z → Leads r a (z .left .sender) → Drained z → AllDelivered left z
+  all-delivered z v u d = record {
+    queue = nil-of (z .left .sender .queue) (omega (arith, flow-length r (v .leftFlow), acked));
+    delivered = sym (append-nil (z .right .receiver .delivered))
         ∙ ap (λ (l : Payloads). z .right .receiver .delivered ++ l) (sym none-pending)
-        ∙ v .leftFlow .placed .prefix,
-  )
+        ∙ v .leftFlow .placed .prefix;
+  }
     where
       acked : length (z .left .sender .accepted) ≤ length (v .left .acked)
-      acked = trail-end (rw (drained-marks r v d .0, drained-marks r v d .1) at (v .leftFlow .trail tt))
+      acked = trail-end (rw (drained-marks r v d .0, drained-marks r v d .1) at (v .leftFlow .trail u))
 
       behind : length (v .left .acked) ≤ length (z .right .receiver .delivered)
       behind = rising-le (length (v .left .acked)) (dacksOf (v .right .marks)) (length (z .right .receiver .delivered)) (v .leftFlow .window .acks)
@@ -45,9 +47,8 @@ module _ (r : Rules) (law : Lawful r) where
           (omega (arith, acked, behind, ap length (v .leftFlow .placed .prefix), length-append (z .right .receiver .delivered) (v .leftFlow .placed .pending)))
 
   -- nothing on the lines at all
-  settled-end : {b : Assumed} (z : Both End) → Invariant r (begun r law) b z → z .left .line ≡ [] → z .right .line ≡ []
-      → (z .left .sender .queue ≡ []) × (z .right .receiver .delivered ≡ z .left .sender .accepted)
-  settled-end z v el er = settled z v (ap countData el, ap countDack er)
+  settled-end : {b : Assumed} (z : Both End) → Invariant r (begun r law) b z → z .left .line ≡ [] → z .right .line ≡ [] → AllDelivered left z
+  settled-end z v el er = all-delivered z v (inl tt) (ap countData el, ap countDack er)
 
   progress-left : {a b : Assumed} (s : Both End) → Invariant r a b s → s .left .line ≡ [] → s .right .line ≡ [] → (k m : ℕ)
       → length (s .left .sender .queue) ≤ k
@@ -56,7 +57,7 @@ module _ (r : Rules) (law : Lawful r) where
   progress-left s v el er k m hk hm =
       let x = exchanged r law s v el er k m hk hm in
       let done = settled-end (run r (exchange left k m) s) (x .holds) (x .leftLine) (x .rightLine) in
-      record { queue = done .0; accepted = x .leftAccepted; delivered = done .1 ∙ x .leftAccepted; lines = (x .leftLine, x .rightLine) }
+      record { queue = done .queue; accepted = x .leftAccepted; delivered = done .delivered ∙ x .leftAccepted; lines = (x .leftLine, x .rightLine) }
 
   -- ---- arrivals that leave nothing on the lines: of what is on the left end's line, of what is on the right end's line then, and of the DACKs
   -- that answer it
@@ -122,10 +123,10 @@ module _ (r : Rules) (law : Lawful r) where
   recovered : {a b : Assumed} (s : Both End) → Invariant r a b s → (n : ℕ) → length (s .left .line) ≤ n → length (s .right .line) ≤ n → r .window ≤ n
       → Recovered s (run r (recovery n) s)
   recovered {a} {b} s v n hl hr hw = rw (recovery-run n s ∙ exchange-mirror r n n y) (record {
-    queues = (forth .0, back .0);
+    queues = (forth .queue, back .queue);
     lines = (second .rightLine, second .leftLine);
-    leftToRight = forth .1 ∙ second .rightAccepted ∙ first .leftAccepted ∙ empty .leftAccepted;
-    rightToLeft = back .1 ∙ second .leftAccepted ∙ first .rightAccepted ∙ empty .rightAccepted;
+    leftToRight = forth .delivered ∙ second .rightAccepted ∙ first .leftAccepted ∙ empty .leftAccepted;
+    rightToLeft = back .delivered ∙ second .leftAccepted ∙ first .rightAccepted ∙ empty .rightAccepted;
   })
     where
       w : Both End
@@ -148,15 +149,23 @@ module _ (r : Rules) (law : Lawful r) where
       second = exchanged r law (mirror y) (invariant-mirror r (first .holds)) (first .rightLine) (first .leftLine) n n
           (omega (arith, queue-small (mirror y) (invariant-mirror r (first .holds)))) (omega arith)
 
-      back : (z .left .sender .queue ≡ []) × (z .right .receiver .delivered ≡ z .left .sender .accepted)
+      back : AllDelivered left z
       back = settled-end z (second .holds) (second .leftLine) (second .rightLine)
 
-      forth : (z .right .sender .queue ≡ []) × (z .left .receiver .delivered ≡ z .right .sender .accepted)
+      forth : AllDelivered left (mirror z)
       forth = settled-end (mirror z) (invariant-mirror r (second .holds)) (second .rightLine) (second .leftLine)
 
   -- ---- the theorems, from every state that events lead to
   reached : (es : List Event) → Invariant r (assumed (Unit {0} × TimerWaits r left es start)) (assumed (Unit {0} × TimerWaits r right es start)) (run r es start)
   reached es = invariant-run r law es start (invariant-start r law)
+
+  -- with payloads sent at once, nothing of an end lost and nothing of it on the line: no timer is needed
+  pub without-loss : T (r .atOnce) → (es : List Event) (d : Side) → endAt d (run r es start) .sender .lost ≡ 0 → DrainedAt d (run r es start)
+      → AllDelivered d (run r es start)
+  without-loss t es left z e = all-delivered (run r es start) (reached es) (inr (t, z)) e
+  without-loss t es right z e =
+      let p = all-delivered (mirror (run r es start)) (invariant-mirror r (reached es)) (inr (t, z)) e in
+      record { queue = p .queue; delivered = p .delivered }
 
   -- with nothing on the lines, an exchange of an end
   pub progress : (es : List Event) (d : Side) → run r es start .left .line ≡ [] → run r es start .right .line ≡ [] → (k m : ℕ)

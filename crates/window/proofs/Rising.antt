@@ -45,9 +45,12 @@ pub chain-raise : (u v : ℕ) (xs : List ℕ) (e : ℕ) → u ≤ v → Chain u 
 chain-raise u v [] e h c = omega arith
 chain-raise u v (x ∷ xs) e h c = (omega arith, c .1)
 
+pub chain-++ : (u : ℕ) (xs : List ℕ) (m : ℕ) (ys : List ℕ) (e : ℕ) → Chain u xs m → Chain m ys e → Chain u (xs ++ ys) e
+chain-++ u [] m ys e c d = chain-raise m u ys e c d
+chain-++ u (x ∷ xs) m ys e c d = (c .0, chain-++ (suc x) xs m ys e (c .1) d)
+
 pub chain-snoc : (u : ℕ) (xs : List ℕ) (e : ℕ) → Chain u xs e → Chain u (xs ++ (e ∷ [])) (suc e)
-chain-snoc u [] e c = (c, omega arith)
-chain-snoc u (x ∷ xs) e c = (c .0, chain-snoc (suc x) xs e (c .1))
+chain-snoc u xs e c = chain-++ u xs e (e ∷ []) (suc e) c (omega arith, omega arith)
 
 -- the last number of a list, z where it is empty
 abbrev pub lastOr : ℕ → List ℕ → ℕ

@@ -12,6 +12,7 @@ use Rattle.window.specs.Sides.{Side, left, right, Both, mirror}
 use Rattle.window.specs.Ends.{Rules, Lawful, End}
 use Rattle.window.specs.Events.{Act, offer, timeout, receive, lose, Event, fresh, start, arrive, step, stepAt, run, Waits, WaitsAt, TimerWaits, Drained}
 use Rattle.window.specs.Claim.{SlidingWindow}
+use Rattle.window.proofs.Count.{Trail}
 use Rattle.window.proofs.Flow.{assumed, Flow, flow-bound}
 use Rattle.window.proofs.Invariant.{Ghost, Invariant, invariant-mirror, invariant-weaken, invariant-accept, invariant-send-all, invariant-lose}
 use Rattle.window.proofs.Receive.{invariant-arrive, invariant-refuse}
@@ -61,9 +62,12 @@ module _ (r : Rules) (law : Lawful r) where
     placed = record { pending = []; split = refl; prefix = refl; residue = refl; expected = refl };
     window = record { acks = omega arith; ahead = omega arith; room = omega arith; fits = tt };
     once = λ t. refl;
-    count = λ h. inl (record { sum = omega arith; trail = record { some = omega arith; chain = omega arith; last = omega arith } });
-    trail = λ u. absurd u;
+    count = λ h. inl (record { sum = omega arith; trail = nothing });
+    trail = λ u. nothing;
   }
+    where
+      nothing : Trail 0 0 0 0 [] []
+      nothing = record { some = omega arith; chain = omega arith; last = omega arith }
 
   pub invariant-start : Invariant r (assumed (Unit {0})) (assumed (Unit {0})) start
   invariant-start =

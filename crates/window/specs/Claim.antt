@@ -4,9 +4,9 @@ use mathlib.Core.Path.{_≡_}
 use mathlib.Core.Bool.{true}
 use mathlib.Core.List.{List, [], _∷_, _++_, IsPrefix}
 use lib.ListN.{length, replicate}
-use Rattle.window.specs.Sides.{Side, left, right, opposite, Both, endAt}
+use Rattle.window.specs.Sides.{Side, left, right, opposite, Both, mirror, endAt}
 use Rattle.window.specs.Ends.{Rules, End}
-use Rattle.window.specs.Events.{timeout, receive, Event, start, run, TimerWaits}
+use Rattle.window.specs.Events.{timeout, receive, Event, start, run, Drained, TimerWaits}
 
 -- from the sender to the receiver: what is delivered is an initial part of what was accepted, in order; and where the sender's timer waited,
 -- the DATA sent are at most the payloads accepted and a window for each lost packet
@@ -17,6 +17,17 @@ pub record OneWay (r : Rules) (sender receiver : End) (Waited : Type 0) : Type 0
 pub record SlidingWindow (r : Rules) (es : List Event) : Type 0 where
   pub leftToRight : OneWay r (run r es start .left) (run r es start .right) (TimerWaits r left es start)
   pub rightToLeft : OneWay r (run r es start .right) (run r es start .left) (TimerWaits r right es start)
+
+-- ---- without a loss
+-- none of this end's DATA is on the line, and no DACK to it
+abbrev pub DrainedAt : Side → Both End → Type 0
+DrainedAt left s = Drained s
+DrainedAt right s = Drained (mirror s)
+
+-- nothing is left in the queue of this end, and all that it accepted is delivered
+pub record AllDelivered (d : Side) (s : Both End) : Type 0 where
+  pub queue : endAt d s .sender .queue ≡ []
+  pub delivered : endAt (opposite d) s .receiver .delivered ≡ endAt d s .sender .accepted
 
 -- ---- progress
 -- the timer of this end, then k arrivals at the other end, then m arrivals at this one; none is refused and nothing is lost

@@ -1,7 +1,8 @@
 //! Two ends and the lines between them, side by side in both programs. In most runs lines only lose packets, and then the
 //! paper's demand 3 is checked of the archive: what is delivered is an initial part of what was accepted at the other end
 //! since both were opened; where timers wait for a drained line, DATA sent are at most those accepted and a whole queue for
-//! each lost packet. In the other runs packets are also invented, changed and repeated and ends replaced; they are compared
+//! each lost packet. And since payloads are sent at once: as long as nothing is lost, all is delivered whenever the line is
+//! drained. In the other runs packets are also invented, changed and repeated and ends replaced; they are compared
 //! alone. A line takes any number of packets, and none leaves it uncounted.
 use super::super::tally::Tally;
 use super::call::{compare, refused, view, Event, Given, Place};
@@ -14,6 +15,7 @@ const INITIAL_PART: &str = "delivered is an initial part of accepted";
 const BOUND: &str = "DATA sent are within the bound";
 const COUNTED: &str = "each DATA sent has arrived, was lost or is on its way";
 const ALL: &str = "all accepted is delivered once nothing is lost";
+const LOSSLESS: &str = "all accepted is delivered on a drained line that has lost nothing";
 const FORMED: &str = "27 answers no link of a run";
 const RESTARTS: &str = "number restarts";
 
@@ -172,6 +174,23 @@ impl Ends<'_> {
         let end = &self.ends[end];
         let counted = end.arrived + end.lost_data + on_the_way;
         self.tally.claim(COUNTED, end.sent == counted);
+    }
+
+    /// Whether none of an end's DATA and no DACK to it is on the line.
+    pub fn drained(&self, end: usize) -> bool {
+        !self.ends[1 - end].line.iter().any(|p| is_data(p))
+            && !self.ends[end].line.iter().any(|p| is_dack(p))
+    }
+
+    /// As long as nothing of an end was lost, a drained line leaves nothing to be delivered and nothing queued. No timer is
+    /// asked for.
+    pub fn check_lossless(&mut self, end: usize) {
+        let (this, other) = (&self.ends[end], &self.ends[1 - end]);
+        if this.lost() == 0 && self.drained(end) {
+            let all = other.delivered == this.accepted.len();
+            self.tally
+                .claim(LOSSLESS, all && this.archive.queue.count == 0);
+        }
     }
 
     /// A packet on its way to an end is lost: DATA counts for its sender, a DACK for the end it was sent to.

@@ -2,7 +2,7 @@
 //! besides.
 use super::super::tally::Tally;
 use super::call::{compare, Event, Place};
-use super::ends::{fresh_end, is_dack, is_data, Ends};
+use super::ends::{fresh_end, Ends};
 use super::make;
 use second::link::PAYLOAD;
 use second::rng::Rng;
@@ -44,12 +44,6 @@ impl Ends<'_> {
             }
         };
         self.call(end, event, room);
-    }
-
-    /// Whether none of an end's DATA and no DACK to it is on the line.
-    fn drained(&self, end: usize) -> bool {
-        !self.ends[1 - end].line.iter().any(|p| is_data(p))
-            && !self.ends[end].line.iter().any(|p| is_dack(p))
     }
 
     /// A call of any kind from the link as it is, whose outcome nobody goes on with.
@@ -106,6 +100,9 @@ fn run(rng: &Rng, claimed: bool, tally: &mut Tally) -> u64 {
                 ends.disturb();
             }
             ends.step();
+            if claimed {
+                (0..2).for_each(|end| ends.check_lossless(end));
+            }
         }
         if claimed {
             ends.settle();
