@@ -92,7 +92,9 @@ impl Link {
         self.event(reply, |link| match link.mode {
             Mode::Reset => Ok(Step::to(link, vec![vec![RESET]])),
             Mode::Wait => {
-                let packets = (0..link.queue.len()).map(|place| link.data(place)).collect();
+                let packets = (0..link.queue.len())
+                    .map(|place| link.data(place))
+                    .collect();
                 Ok(Step::to(link, packets))
             }
             _ => Err(24),
