@@ -97,6 +97,32 @@ hasfandur_dlc_outcome plain_dlc_timer(hasfandur_dlc_link link, uint8_t *reply, s
     return outcome;
 }
 
+/* The link's payload, by the header's types; the link is trusted. */
+hasfandur_dlc_outcome plain_dlc_payload(hasfandur_dlc_link link, const uint8_t *payload, size_t length, uint8_t *reply, size_t reply_length)
+{
+    hasfandur_dlc_outcome outcome = {.link = link};
+    const size_t count = link.queue.count;
+    if (reply_length < HASFANDUR_DLC_REPLY_SIZE) {
+        outcome.answer.number = HASFANDUR_DLC_REPLY_TOO_SMALL;
+    } else if (length > HASFANDUR_DLC_MAX_PAYLOAD) {
+        outcome.answer.number = HASFANDUR_DLC_PAYLOAD_TOO_LONG;
+    } else if (link.state < HASFANDUR_DLC_STATE_DATA) {
+        outcome.answer.number = HASFANDUR_DLC_NOT_OPEN;
+    } else if (count == HASFANDUR_DLC_SLOTS) {
+        outcome.answer.number = HASFANDUR_DLC_QUEUE_FULL;
+    } else {
+        outcome.link.state = HASFANDUR_DLC_STATE_WAIT;
+        outcome.link.queue.count = count + 1;
+        outcome.link.queue.slots[count].length = length;
+        memcpy(outcome.link.queue.slots[count].octets, payload, length);
+        reply[0] = (uint8_t)(0x40 | ((link.base + count) & 0x0F));
+        memcpy(reply + 1, payload, length);
+        outcome.answer.sent = 1;
+        outcome.answer.lengths[0] = 1 + length;
+    }
+    return outcome;
+}
+
 /* the carry added in again after each octet */
 uint8_t plain_sum_by_octets(const uint8_t *octets, size_t length)
 {

@@ -1,11 +1,12 @@
-//! DLC: the link's timer event with a full queue, which sends every payload again.
+//! DLC: the link's timer event with a full queue, which sends every payload again; and payloads that fill an empty queue, each
+//! sent as it is queued.
 use crate::archive::link as archive;
 use crate::others;
 use crate::row::Row;
 use second::link::{Link, Mode, PAYLOAD, QUEUE, REPLY};
 use second::rng::Rng;
 
-pub const ROWS: &[fn() -> Row] = &[timer];
+pub const ROWS: &[fn() -> Row] = &[timer, payload];
 
 /// The events of a turn. The link that an event gives back goes into the next.
 const EVENTS: usize = 64;
@@ -62,6 +63,55 @@ fn by_second() -> impl FnMut() -> usize {
         }
         total
     }
+}
+
+type Payload = fn(archive::Link, &[u8], &mut [u8]) -> archive::Outcome;
+
+/// Payloads from an empty queue to a full one, and from an empty one again.
+fn queued_by_value(payload: Payload) -> impl FnMut() -> usize {
+    let (payloads, mut reply) = (payloads(), vec![0; REPLY]);
+    move || {
+        let (mut link, mut total) = (archive::fresh(), 0);
+        for i in 0..EVENTS {
+            if i % QUEUE == 0 {
+                link.state = 2;
+                link.queue.count = 0;
+            }
+            let outcome = payload(link, &payloads[i % QUEUE], &mut reply);
+            link = outcome.link;
+            total += sent(&outcome.answer.lengths, &reply);
+        }
+        total
+    }
+}
+
+fn queued_by_second() -> impl FnMut() -> usize {
+    let (payloads, mut reply) = (payloads(), vec![0; REPLY]);
+    move || {
+        let (mut link, mut total) = (Link::fresh(), 0);
+        for i in 0..EVENTS {
+            if i % QUEUE == 0 {
+                link.mode = Mode::Data;
+                link.queue.clear();
+            }
+            let (next, answer) = link.payload(&payloads[i % QUEUE], &mut reply);
+            link = next;
+            total += sent(&answer.sent, &reply);
+        }
+        total
+    }
+}
+
+fn payload() -> Row {
+    let ours = queued_by_value(|link, payload, reply| link.payload(payload, reply));
+    Row::new(
+        "link's payload of 256, queued and sent",
+        "event",
+        EVENTS,
+        ours,
+    )
+    .beside("second", queued_by_second())
+    .beside("plain C", queued_by_value(others::dlc_payload))
 }
 
 fn timer() -> Row {

@@ -66,6 +66,13 @@ extern "C" {
     fn plain_sum_by_octets(octets: *const u8, length: usize) -> u8;
     fn plain_sum_at_end(octets: *const u8, length: usize) -> u8;
     fn plain_dlc_timer(link: Link, reply: *mut u8, reply_length: usize) -> Outcome;
+    fn plain_dlc_payload(
+        link: Link,
+        payload: *const u8,
+        length: usize,
+        reply: *mut u8,
+        reply_length: usize,
+    ) -> Outcome;
     fn plain_afp_read(frame: *const u8, length: usize) -> RawReading;
     fn plain_afp_write(
         protocol: u8,
@@ -124,6 +131,11 @@ pub fn qaft_read(from: State, chunk: &[u8], store: &mut [u8]) -> (State, Answer)
 
 pub fn dlc_timer(link: Link, reply: &mut [u8]) -> Outcome {
     unsafe { plain_dlc_timer(link, reply.as_mut_ptr(), reply.len()) }
+}
+
+pub fn dlc_payload(link: Link, payload: &[u8], reply: &mut [u8]) -> Outcome {
+    let (place, room) = (reply.as_mut_ptr(), reply.len());
+    unsafe { plain_dlc_payload(link, payload.as_ptr(), payload.len(), place, room) }
 }
 
 fn part(raw: RawPart) -> Part {
