@@ -1,17 +1,19 @@
 -- Laws of the step table's rows, for whoever comes to one by tests. Assumes nothing.
-use Prim.Native.Nat.{ℕ, _<_, _≤_}
+use Prim.Native.Nat.{ℕ, suc, _<_, _≤_}
 use native.Mathlib.Omega.{arith}
-use mathlib.Core.Path.{_≡_, refl, sym}
+use mathlib.Core.Path.{_≡_, refl, sym, ap, _∙_}
 use mathlib.Core.Bool.{Bool, true, false, cond, _&&_, false≢true}
-use mathlib.Core.List.{[], _∷_}
+use mathlib.Core.List.{List, [], _∷_, _++_}
 use lib.ListN.{length}
 use lib.Dec.{ltb, leb}
 use borrow.Author.Tests.{lt-ltb, le-leb, lt-leb, eq-eqb, ne-eqb}
+use Rattle.dlc_packet.specs.Numbers.{modulus, advance}
+use Rattle.dlc_packet.specs.Packet.{dataPacket, dataPackets}
 use Rattle.dlc_table.specs.declared.State.{State}
 use Rattle.dlc_table.specs.declared.State.the-variants.{Idle, Reset, Data, Wait}
 use Rattle.dlc_table.specs.Answers.{done, noEntry, otherNumber}
 use Rattle.dlc_table.specs.Model.{Model}
-use Rattle.dlc_table.specs.Events.{Effect, effect, refuse, expectNext, dackOf, judged, dataStep, isOpen, without, distanceOf, acknowledged, resetAckStep, dackStep}
+use Rattle.dlc_table.specs.Events.{Effect, effect, refuse, expectNext, dackOf, judged, dataStep, isOpen, without, distanceOf, acknowledged, resetAckStep, dackStep, timerStep, withPayload, queued}
 
 -- DATA with the expected number, and with another
 abbrev pub taken : Model → Effect
@@ -69,3 +71,19 @@ dack-silent m Idle x = refl
 dack-silent m Reset x = refl
 dack-silent m Data x = refl
 dack-silent m Wait x = acknowledged-silent m (distanceOf m x)
+
+-- ---- what is sent at once is what the timer sends again
+advance-on : (x n : ℕ) → advance (advance x 1) n ≡ advance x (suc n)
+advance-on x n = omega arith
+
+packets-behind : (x : ℕ) (q : List (List ℕ)) (p : List ℕ) → x < modulus
+    → dataPackets x (q ++ (p ∷ [])) ≡ dataPackets x q ++ (dataPacket (advance x (length q)) p ∷ [])
+packets-behind x [] p h = ap (λ (n : ℕ). dataPacket n p ∷ []) (omega arith)
+packets-behind x (r ∷ q) p h =
+    ap (λ (ks : List (List ℕ)). dataPacket x r ∷ ks)
+    (packets-behind (advance x 1) q p (omega arith)
+    ∙ ap (λ (n : ℕ). dataPackets (advance x 1) q ++ (dataPacket n p ∷ [])) (advance-on x (length q)))
+
+-- of a queue with a payload more, the timer sends what it sent of the queue, and then the very packet that was sent when the payload was queued
+pub timer-repeats : (m : Model) (p : List ℕ) → m .base < modulus → timerStep (withPayload m p) Wait .packets ≡ timerStep m Wait .packets ++ queued m p .packets
+timer-repeats m p h = packets-behind (m .base) (m .queue) p h
