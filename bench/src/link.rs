@@ -28,9 +28,10 @@ fn waiting() -> archive::Link {
     link
 }
 
-/// What an answer's packets are, as one number.
+/// What an answer's packets are, as one number: how many octets, the first and the last of them.
 fn sent(lengths: &[usize], reply: &[u8]) -> usize {
-    lengths.iter().sum::<usize>() + usize::from(reply[0]) + usize::from(reply[REPLY - 1])
+    let octets: usize = lengths.iter().sum();
+    octets + usize::from(reply[0]) + usize::from(reply[octets - 1])
 }
 
 fn by_value(timer: fn(archive::Link, &mut [u8]) -> archive::Outcome) -> impl FnMut() -> usize {
