@@ -10,7 +10,7 @@ use lib.ListN.{length-append}
 use Rattle.sums.specs.Sum.{notCalculated}
 use Rattle.fcs.specs.Fcs.{preset, feedAll, checkSequence}
 use Rattle.fcs.specs.Words.{shiftBits, littleEndian}
-use Rattle.fcs.proofs.Xor.{xor-left}
+use Rattle.common.proofs.Xor.{xor-left}
 use Rattle.fcs.proofs.Register.{Octets, shifts-injective, feeds-lt, feeds-word, feed-++}
 use Rattle.fcs.proofs.Residue.{feeds-injective}
 use Rattle.afp.specs.Answers.{badCheck}

@@ -1,4 +1,3 @@
-pub mod Xor
 pub mod Linear
 pub mod Register
 pub mod Words

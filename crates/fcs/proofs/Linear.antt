@@ -9,7 +9,7 @@ use lib.Arith.{lt-one}
 use lib.Bits.{bitXor, xor-shr, xor-mod, xor-self, xor-shifted}
 use lib.Dec.{T, ltb, eqb, eqb→eq}
 use Rattle.common.proofs.Bools.{and-left, and-right}
-use Rattle.fcs.proofs.Xor.{xor-exchange, xor-shl}
+use Rattle.common.proofs.Xor.{xor-exchange, xor-shl}
 
 abbrev pub Linear : (ℕ → ℕ) → Type 0
 Linear f = (a b : ℕ) → f (bitXor a b) ≡ bitXor (f a) (f b)

@@ -11,7 +11,7 @@ use lib.ListN.{length, getD, take, drop, take-append-drop, drop-of-length-le, le
 use lib.Seq.{drop-cons, drop-drop, take-all, length-take-le}
 use Rattle.fcs.specs.Fcs.{generator, preset, reduceIf, feedBit, feedBits, feed, feedAll, checkSequence}
 use Rattle.fcs.specs.Words.{shiftBit, shiftBits, littleEndian}
-use Rattle.fcs.proofs.Xor.{xor-half, xor-low, xor-parity, xor-assoc, xor-cancel, xor-exchange}
+use Rattle.common.proofs.Xor.{xor-half, xor-low, xor-parity, xor-assoc, xor-cancel, xor-exchange}
 use Rattle.fcs.proofs.Linear.{Linear, linear-id, linear-∘}
 
 -- each octet of a list is one

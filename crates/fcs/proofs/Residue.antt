@@ -8,7 +8,7 @@ use lib.Bits.{bitXor, xor-lt, xor-comm}
 use lib.Dec.{lit<}
 use Rattle.fcs.specs.Fcs.{preset, residue, feed, feedAll, checkSequence, checkOctets}
 use Rattle.fcs.specs.Words.{shiftBit, shiftBits, littleEndian}
-use Rattle.fcs.proofs.Xor.{xor-complement, xor-left}
+use Rattle.common.proofs.Xor.{xor-complement, xor-left}
 use Rattle.fcs.proofs.Register.{Octets, shifts-injective, feed-shift, feed-lt, feeds-lt, feeds-word, feed-++}
 
 -- ---- two octets after a register
