@@ -20,6 +20,7 @@ FIELD(hasfandur_qaft_reader, synced, 1, 1);
 FIELD(hasfandur_qaft_reader, pending, 2, 1);
 FIELD(hasfandur_qaft_reader, count, 8, 8);
 FIELD(hasfandur_qaft_reader, sum, 16, 1);
+FIELD(hasfandur_qaft_reader, bad_pair, 17, 1);
 
 static_assert(sizeof(hasfandur_qaft_answer) == 48, "hasfandur_qaft_answer");
 FIELD(hasfandur_qaft_answer, number, 0, 1);
@@ -86,12 +87,12 @@ FIELD(hasfandur_reading, supplementary, 40, 16);
 FIELD(hasfandur_reading, payload, 56, 16);
 FIELD(hasfandur_reading, unchecked, 72, 1);
 
-static_assert(sizeof(hasfandur_counts) == 112, "hasfandur_counts");
+static_assert(sizeof(hasfandur_counts) == 120, "hasfandur_counts");
 FIELD(hasfandur_counts, number, 0, 1);
-FIELD(hasfandur_counts, counts, 8, 104);
+FIELD(hasfandur_counts, counts, 8, 112);
 
-static_assert(sizeof(hasfandur_tally) == 52, "hasfandur_tally");
-FIELD(hasfandur_tally, counts, 0, 52);
+static_assert(sizeof(hasfandur_tally) == 56, "hasfandur_tally");
+FIELD(hasfandur_tally, counts, 0, 56);
 
 static_assert(HASFANDUR_QAFT_FRAME_SIZE(HASFANDUR_QAFT_MAX_DATA) == HASFANDUR_QAFT_MAX_FRAME, "longest QAFT frame");
 static_assert(HASFANDUR_KISS_FRAME_SIZE(HASFANDUR_QAFT_MAX_DATA) == HASFANDUR_KISS_MAX_FRAME, "longest KISS frame");

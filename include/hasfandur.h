@@ -24,8 +24,8 @@ extern "C" {
 
 /* The version, and the same as one number to compare: 10000 for the first part, 100 for the second. */
 /* begin version: written by include/numbers */
-#define HASFANDUR_VERSION "0.6.0"
-#define HASFANDUR_VERSION_NUMBER 600
+#define HASFANDUR_VERSION "0.7.0"
+#define HASFANDUR_VERSION_NUMBER 700
 /* end version */
 
 /* On calls that give a state or a link back: who drops it goes on with the old one. */
@@ -53,6 +53,7 @@ enum hasfandur_number {
     HASFANDUR_QAFT_SHORT = 13, /* QAFT reader's report, no refusal: a single octet */
     HASFANDUR_QAFT_BAD_CHECK = 14, /* QAFT reader's report, no refusal: the sum is not 0 */
     HASFANDUR_QAFT_USED_UP = 15, /* QAFT reader, KISS too, no refusal: the chunk is used up without a report */
+    HASFANDUR_QAFT_BAD_PAIR = 16, /* QAFT reader's report, no refusal: 7D before an octet that stands for none that the level escapes */
     HASFANDUR_DLC_NOT_OPEN = 20, /* DLC payload: the link is not open */
     HASFANDUR_DLC_PAYLOAD_TOO_LONG = 21, /* DLC payload: over 256 octets */
     HASFANDUR_DLC_QUEUE_FULL = 22, /* DLC payload: the queue is full */
@@ -100,8 +101,8 @@ enum hasfandur_number {
 #define HASFANDUR_AFP_MAX_HEADER 254 /* the longest */
 #define HASFANDUR_AFP_MAX_DATA 2304 /* data of an AFP frame, which may be none */
 #define HASFANDUR_SHEET_LINES 64 /* lines of a sheet: a line number is below this */
-#define HASFANDUR_SHEET_COUNTS 13 /* counts of a line */
-#define HASFANDUR_SHEET_MAX_LINE 336 /* the line printer's `out`, at least: room for every printed line */
+#define HASFANDUR_SHEET_COUNTS 14 /* counts of a line */
+#define HASFANDUR_SHEET_MAX_LINE 357 /* the line printer's `out`, at least: room for every printed line */
 /* end sizes */
 
 /* An `out` of this size has room for the QAFT frame of n data octets, whatever they are; one for the KISS frame of n payload octets;
@@ -139,8 +140,8 @@ hasfandur_written hasfandur_qaft_write(uint8_t level, bool at_flag, const uint8_
 
 /*
  * The QAFT reader's state, which goes from call to call by value: level; whether a flag has come; whether a 7D waits for
- * its partner; octets of the segment so far, escapes undone, 2,562 for all above; their sum modulo 256. In `synced` and
- * `pending` any number but 0 stands for true; a call that is not refused gives 0 or 1 back.
+ * its partner; octets of the segment so far, escapes undone, 2,562 for all above; their sum modulo 256; whether a bad pair came in
+ * the segment. In `synced`, `pending` and `bad_pair` any number but 0 stands for true; a call that is not refused gives 0 or 1 back.
  */
 typedef struct hasfandur_qaft_reader {
     uint8_t level;
@@ -148,6 +149,7 @@ typedef struct hasfandur_qaft_reader {
     uint8_t pending;
     size_t count;
     uint8_t sum;
+    uint8_t bad_pair;
 } hasfandur_qaft_reader;
 
 /* The reader's answer: report or refusal; octets of the chunk taken; data octets at the front of the buffer (0 unless the
@@ -167,6 +169,10 @@ HASFANDUR_MUST_USE hasfandur_qaft_reader hasfandur_qaft_fresh(uint8_t level);
  * state that came back and the same buffer; after HASFANDUR_QAFT_USED_UP go on with the next chunk. Octets are stored in the
  * buffer as they come, escapes undone; the reader judges by its state alone. At level 1 a raw 11 or 13 is flow control: it is taken
  * and changes nothing, also between 7D and its partner, so that two flags with nothing else between them give no report.
+ *
+ * A pair is good only if it stands for an octet that the level escapes: 7D 5D and 7D 5E, at level 1 also 7D 31 and 7D 33. The octet of a
+ * bad pair is counted, summed and stored like any other, and the segment is reported as HASFANDUR_QAFT_BAD_PAIR, unless a 7D stands before
+ * its flag. So what is reported as a frame is, raw flow control aside, octet for octet what hasfandur_qaft_write makes of its data.
  *
  * Refusals, the first that applies: HASFANDUR_QAFT_BAD_LEVEL, _BUFFER_TOO_SMALL (under HASFANDUR_QAFT_MAX_SEGMENT octets),
  * _BAD_STATE (a state that no line leads to). A refusal takes nothing, writes nothing, and gives the very state back that came.
@@ -440,9 +446,10 @@ enum hasfandur_sheet_place {
     HASFANDUR_SHEET_LONG = 7, /* reports HASFANDUR_QAFT_LONG */
     HASFANDUR_SHEET_SHORT = 8, /* reports HASFANDUR_QAFT_SHORT */
     HASFANDUR_SHEET_BAD_CHECKS = 9, /* reports HASFANDUR_QAFT_BAD_CHECK */
-    HASFANDUR_SHEET_DATA = 10, /* DATA packets */
-    HASFANDUR_SHEET_DACK = 11, /* DACK packets */
-    HASFANDUR_SHEET_REPEATS = 12 /* DATA packets with the number of the DATA before them */
+    HASFANDUR_SHEET_BAD_PAIRS = 10, /* reports HASFANDUR_QAFT_BAD_PAIR */
+    HASFANDUR_SHEET_DATA = 11, /* DATA packets */
+    HASFANDUR_SHEET_DACK = 12, /* DACK packets */
+    HASFANDUR_SHEET_REPEATS = 13 /* DATA packets with the number of the DATA before them */
 };
 /* end counts */
 
@@ -511,6 +518,8 @@ static inline const char *hasfandur_number_name(uint8_t number)
         return "QAFT_BAD_CHECK";
     case HASFANDUR_QAFT_USED_UP:
         return "QAFT_USED_UP";
+    case HASFANDUR_QAFT_BAD_PAIR:
+        return "QAFT_BAD_PAIR";
     case HASFANDUR_DLC_NOT_OPEN:
         return "DLC_NOT_OPEN";
     case HASFANDUR_DLC_PAYLOAD_TOO_LONG:

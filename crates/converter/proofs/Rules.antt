@@ -32,6 +32,7 @@ qaft-length qaftReport.Aborted = refl
 qaft-length qaftReport.Long = refl
 qaft-length qaftReport.Short = refl
 qaft-length qaftReport.BadCheck = refl
+qaft-length qaftReport.BadPair = refl
 
 pub kiss-length : (p : kissReports.Report) → gistLength (gistOfKiss p) ≡ kissAnswer.reportLength p
 kiss-length (kissReport.Frame n) = refl
@@ -61,6 +62,7 @@ qaft-bare qaftReport.Aborted h = tt
 qaft-bare qaftReport.Long h = tt
 qaft-bare qaftReport.Short h = tt
 qaft-bare qaftReport.BadCheck h = tt
+qaft-bare qaftReport.BadPair h = tt
 
 kiss-bare : (p : kissReports.Report) → kissLaws.NoFrame p → Within (gistOfKiss p)
 kiss-bare (kissReport.Frame n) h = absurd h

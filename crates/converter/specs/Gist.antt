@@ -34,6 +34,7 @@ gistOfQaft qaftReport.Aborted = Other
 gistOfQaft qaftReport.Long = Other
 gistOfQaft qaftReport.Short = Other
 gistOfQaft qaftReport.BadCheck = Other
+gistOfQaft qaftReport.BadPair = Other
 
 abbrev pub gistOfKiss : kissReports.Report → Gist
 gistOfKiss (kissReport.Frame n) = Frame n

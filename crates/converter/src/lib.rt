@@ -253,6 +253,7 @@ fn gist_of_qaft(report: qaft_report::Report) -> Gist
         qaft_report::Report::Long => Gist::Other,
         qaft_report::Report::Short => Gist::Other,
         qaft_report::Report::BadCheck => Gist::Other,
+        qaft_report::Report::BadPair => Gist::Other,
     }
 }
 

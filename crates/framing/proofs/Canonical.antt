@@ -3,14 +3,14 @@
 use Prim.Native.Nat.{ℕ}
 use mathlib.Core.Bool.{Bool, true, false}
 use mathlib.Core.List.{List, [], _∷_}
-use mathlib.Core.Path.{_≡_, refl, sym, ap, _∙_}
+use mathlib.Core.Path.{_≡_, refl}
 use native.Mathlib.Omega.{arith}
 use borrow.Author.Tests.{eqb-true}
 use lib.Dec.{eqb}
 use Rattle.common.proofs.Bools.{either, or-false-left, or-false-right}
 use Rattle.common.proofs.Each.{Each}
 use Rattle.framing.proofs.Unescape.{unescape-pair, unescape-plain}
-use Rattle.framing.specs.Reports.{Unescaped, atFront, segments, unskipped, onto, ontoPair, unescape}
+use Rattle.framing.specs.Reports.{atFront, segments, unskipped, onto, ontoPair, unescape}
 use Rattle.framing.specs.Rules.{Rules}
 use Rattle.framing.specs.Writing.{Writing, escapedOne, escaped, Canonical}
 
@@ -33,10 +33,10 @@ module _ {A R : Type 0} (rules : Rules A R) where
       either (Each NoFlag) (eqb x (rules .flag)) (λ _. (tt, ih)) (λ e. atFront-no-flag x (segments rules xs) e ih)
 
   -- an octet of a segment that is not skipped
-  abbrev Raw : ℕ → Type 0
+  abbrev pub Raw : ℕ → Type 0
   Raw x = (eqb x (rules .flag) ≡ false) × (rules .skips x ≡ false)
 
-  unskipped-raw : (s : List ℕ) → NoFlag s → Each Raw (unskipped rules s)
+  pub unskipped-raw : (s : List ℕ) → NoFlag s → Each Raw (unskipped rules s)
   unfolding unskipped
   unskipped-raw [] h = tt
   unskipped-raw (x ∷ s) h =
@@ -76,14 +76,7 @@ module _ {A R : Type 0} (rules : Rules A R) where
     same-two x y s h i j true e = same-pair x y s e i
     same-two x y s h i j false e = same-plain x (y ∷ s) h e j
 
-    escaped-unescape : (s : List ℕ) → Each Raw s → Same s
+    pub escaped-unescape : (s : List ℕ) → Each Raw s → Same s
     escaped-unescape [] h = same-none
     escaped-unescape (x ∷ []) h = same-one x (h .0) (eqb x (rules .escape)) refl
     escaped-unescape (x ∷ y ∷ s) h = same-two x y s (h .0) (escaped-unescape s (h .1 .1)) (escaped-unescape (y ∷ s) (h .1)) (eqb x (rules .escape)) refl
-
-    -- a segment with no escape left over and no bad pair is, skipped octets removed, what is written for the octets that it stands for
-    pub segment-canonical : (s : List ℕ) → NoFlag s → (u : Unescaped) → unescape rules (unskipped rules s) ≡ u → u .dangling ≡ false → u .bad ≡ false
-        → escaped writing (u .octets) ≡ unskipped rules s
-    segment-canonical s h u e d b =
-        ap (λ (v : Unescaped). escaped writing (v .octets)) (sym e)
-        ∙ escaped-unescape (unskipped rules s) (unskipped-raw s h) (ap (λ (v : Unescaped). v .dangling) e ∙ d) (ap (λ (v : Unescaped). v .bad) e ∙ b)

@@ -21,3 +21,4 @@ pub mod Escaping
 pub mod Frames
 pub mod Told
 pub mod Shown
+pub mod Bodies

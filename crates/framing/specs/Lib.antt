@@ -10,3 +10,4 @@ pub mod PlainReading
 pub mod Run
 pub mod Closing
 pub mod Told
+pub mod Bodies

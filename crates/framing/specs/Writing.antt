@@ -5,7 +5,7 @@
 --   frame w atFlag b     one body (data with their check, if there is one) between its flags
 --   line w bs            a list of bodies
 --   frames w atFlag bs   the same, written one body at a time
-use Prim.Native.Nat.{ℕ}
+use Prim.Native.Nat.{ℕ, _<_}
 use mathlib.Core.Bool.{Bool, true, false, cond}
 use mathlib.Core.List.{List, [], _∷_, _++_}
 use mathlib.Core.Path.{_≡_}
@@ -72,3 +72,5 @@ module _ {A R : Type 0} (rules : Rules A R) (writing : Writing) where
     pub escape-is : eqb (writing .escape) (rules .escape) ≡ true
     pub good-pair : (y : ℕ) → rules .badPair y ≡ false → (writing .escapes (rules .partner y) ≡ true) × (writing .behind (rules .partner y) ≡ y)
     pub raw : (x : ℕ) → eqb x (rules .flag) ≡ false → eqb x (rules .escape) ≡ false → rules .skips x ≡ false → writing .escapes x ≡ false
+    -- what is escaped is an octet
+    pub octet : (x : ℕ) → writing .escapes x ≡ true → x < 256

@@ -20,7 +20,7 @@ use Rattle.kiss_rules.specs.Rules as kissRules
 use Rattle.lister.specs.Entries.{entryOfQaft, entryOfKiss, entryLength, sourceRules, ruleOf}
 use Rattle.listing.proofs.Entry as entries
 use Rattle.listing.specs.declared.Entry.{Entry}
-use Rattle.listing.specs.declared.Entry.the-variants.{Frame, Aborted, Long, Short, BadCheck, BadEscape, Skipped}
+use Rattle.listing.specs.declared.Entry.the-variants.{Frame, Aborted, Long, Short, BadCheck, BadPair, BadEscape, Skipped}
 use Rattle.qaft.specs.Limits.{maxData, maxSegment}
 use Rattle.qaft_laws.proofs.Rules as qaftLaws
 use Rattle.qaft_read.proofs.SharedRule as qaftReader
@@ -36,6 +36,7 @@ qaft-length qaftReport.Aborted = refl
 qaft-length qaftReport.Long = refl
 qaft-length qaftReport.Short = refl
 qaft-length qaftReport.BadCheck = refl
+qaft-length qaftReport.BadPair = refl
 
 pub kiss-length : (p : kissReports.Report) → entryLength (entryOfKiss p) ≡ kissAnswer.reportLength p
 kiss-length (kissReport.Frame n) = refl
@@ -59,12 +60,13 @@ cap-is true level = refl
 cap-is false level = refl
 
 -- an entry that is no frame shows none
-pub no-frame : (p : Entry) → OneOf (1 ∷ 2 ∷ 3 ∷ 4 ∷ 5 ∷ 6 ∷ []) (tagOf entries.the-type p) → 0 ≡ entryLength p
-no-frame (Frame n) k = absurd (miss (1 ∷ 2 ∷ 3 ∷ 4 ∷ 5 ∷ 6 ∷ []) 0 tt k)
+pub no-frame : (p : Entry) → OneOf (1 ∷ 2 ∷ 3 ∷ 4 ∷ 5 ∷ 6 ∷ 7 ∷ []) (tagOf entries.the-type p) → 0 ≡ entryLength p
+no-frame (Frame n) k = absurd (miss (1 ∷ 2 ∷ 3 ∷ 4 ∷ 5 ∷ 6 ∷ 7 ∷ []) 0 tt k)
 no-frame Aborted k = refl
 no-frame Long k = refl
 no-frame Short k = refl
 no-frame BadCheck k = refl
+no-frame BadPair k = refl
 no-frame BadEscape k = refl
 no-frame Skipped k = refl
 
@@ -75,6 +77,7 @@ qaft-bare qaftReport.Aborted h = omega arith
 qaft-bare qaftReport.Long h = omega arith
 qaft-bare qaftReport.Short h = omega arith
 qaft-bare qaftReport.BadCheck h = omega arith
+qaft-bare qaftReport.BadPair h = omega arith
 
 kiss-bare : (p : kissReports.Report) → kissLaws.NoFrame p → entryLength (entryOfKiss p) ≤ maxData
 kiss-bare (kissReport.Frame n) h = absurd h

@@ -21,7 +21,7 @@ use Rattle.kiss_report.specs.declared.Report.the-variants as kissReport
 use Rattle.kiss_rules.specs.Rules as kissRules
 use Rattle.listing.specs.Line.{reportLine}
 use Rattle.listing.specs.declared.Entry.{Entry}
-use Rattle.listing.specs.declared.Entry.the-variants.{Frame, Aborted, Long, Short, BadCheck, BadEscape, Skipped}
+use Rattle.listing.specs.declared.Entry.the-variants.{Frame, Aborted, Long, Short, BadCheck, BadPair, BadEscape, Skipped}
 use Rattle.qaft.specs.Escape as qaftEscape
 use Rattle.qaft_read.specs.Scanned as qaftReader
 use Rattle.qaft_report.specs.declared.Report as qaftReports
@@ -34,6 +34,7 @@ entryOfQaft qaftReport.Aborted = Aborted
 entryOfQaft qaftReport.Long = Long
 entryOfQaft qaftReport.Short = Short
 entryOfQaft qaftReport.BadCheck = BadCheck
+entryOfQaft qaftReport.BadPair = BadPair
 
 abbrev pub entryOfKiss : kissReports.Report → Entry
 entryOfKiss (kissReport.Frame n) = Frame n
@@ -49,6 +50,7 @@ entryLength Aborted = 0
 entryLength Long = 0
 entryLength Short = 0
 entryLength BadCheck = 0
+entryLength BadPair = 0
 entryLength BadEscape = 0
 entryLength Skipped = 0
 

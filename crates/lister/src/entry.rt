@@ -12,6 +12,7 @@ pub(crate) fn of_qaft(report: qaft_report::Report) -> Entry
         qaft_report::Report::Long => Entry::Long,
         qaft_report::Report::Short => Entry::Short,
         qaft_report::Report::BadCheck => Entry::BadCheck,
+        qaft_report::Report::BadPair => Entry::BadPair,
     }
 }
 

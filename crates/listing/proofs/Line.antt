@@ -11,7 +11,7 @@ use Rattle.listing.proofs.Entry as entries
 use Rattle.listing.specs.Line.{name, details, reportLine, lineRoom}
 use Rattle.listing.specs.Names.{names, nameStart, nameEnd}
 use Rattle.listing.specs.declared.Entry.{Entry}
-use Rattle.listing.specs.declared.Entry.the-variants.{Frame, Aborted, Long, Short, BadCheck, BadEscape, Skipped}
+use Rattle.listing.specs.declared.Entry.the-variants.{Frame, Aborted, Long, Short, BadCheck, BadPair, BadEscape, Skipped}
 use Rattle.octets.specs.Put.{putInto, putEnd}
 use Rattle.text.specs.Placed.{Placed}
 use Rattle.text.proofs.Putting.{placed, placed-++, length-placed}
@@ -25,6 +25,7 @@ name-part Aborted = refl
 name-part Long = refl
 name-part Short = refl
 name-part BadCheck = refl
+name-part BadPair = refl
 name-part BadEscape = refl
 name-part Skipped = refl
 
@@ -36,12 +37,13 @@ put-named p from end r i m m′ a b e d =
     let part : take (end - from) (drop from names) ≡ name p = ap₂ (λ (j k : ℕ). take (k - j) (drop j names)) a b ∙ name-part p in
     (e ∙ ap (λ (t : List ℕ). putEnd t m i) part, d ∙ ap (λ (t : List ℕ). putInto t m i) part)
 
-pub name-within : (p : Entry) → (nameStart p ≤ nameEnd p) × (nameEnd p ≤ 44)
+pub name-within : (p : Entry) → (nameStart p ≤ nameEnd p) × (nameEnd p ≤ 49)
 name-within (Frame n) = (omega arith, omega arith)
 name-within Aborted = (omega arith, omega arith)
 name-within Long = (omega arith, omega arith)
 name-within Short = (omega arith, omega arith)
 name-within BadCheck = (omega arith, omega arith)
+name-within BadPair = (omega arith, omega arith)
 name-within BadEscape = (omega arith, omega arith)
 name-within Skipped = (omega arith, omega arith)
 
@@ -51,6 +53,7 @@ length-name Aborted = omega arith
 length-name Long = omega arith
 length-name Short = omega arith
 length-name BadCheck = omega arith
+length-name BadPair = omega arith
 length-name BadEscape = omega arith
 length-name Skipped = omega arith
 
@@ -61,6 +64,7 @@ length-details Aborted d = omega arith
 length-details Long d = omega arith
 length-details Short d = omega arith
 length-details BadCheck d = omega arith
+length-details BadPair d = omega arith
 length-details BadEscape d = omega arith
 length-details Skipped d = omega arith
 
@@ -131,13 +135,14 @@ module _ (p : Entry) (n : ℕ) (told : p ≡ Frame n) (d m m₁ m₂ m₃ m₄ :
   details-placed = subst (λ (p : Entry). Placed m i (details p d) m₄ r) (sym told) frame-placed
 
 -- a report that is no frame has nothing behind its name
-pub no-details : (p : Entry) (d : List ℕ) → OneOf (1 ∷ 2 ∷ 3 ∷ 4 ∷ 5 ∷ 6 ∷ []) (tagOf entries.the-type p) → details p d ≡ []
+pub no-details : (p : Entry) (d : List ℕ) → OneOf (1 ∷ 2 ∷ 3 ∷ 4 ∷ 5 ∷ 6 ∷ 7 ∷ []) (tagOf entries.the-type p) → details p d ≡ []
 unfolding details
-no-details (Frame n) d k = absurd (miss (1 ∷ 2 ∷ 3 ∷ 4 ∷ 5 ∷ 6 ∷ []) 0 tt k)
+no-details (Frame n) d k = absurd (miss (1 ∷ 2 ∷ 3 ∷ 4 ∷ 5 ∷ 6 ∷ 7 ∷ []) 0 tt k)
 no-details Aborted d k = refl
 no-details Long d k = refl
 no-details Short d k = refl
 no-details BadCheck d k = refl
+no-details BadPair d k = refl
 no-details BadEscape d k = refl
 no-details Skipped d k = refl
 

@@ -5,7 +5,7 @@ use Prim.Native.Nat.{ℕ, _+_, _*_}
 use mathlib.Core.List.{List, [], _++_}
 use lib.ListN.{length}
 use Rattle.listing.specs.declared.Entry.{Entry}
-use Rattle.listing.specs.declared.Entry.the-variants.{Frame, Aborted, Long, Short, BadCheck, BadEscape, Skipped}
+use Rattle.listing.specs.declared.Entry.the-variants.{Frame, Aborted, Long, Short, BadCheck, BadPair, BadEscape, Skipped}
 use Rattle.qaft.specs.Limits.{maxData}
 use Rattle.text.specs.Text.{ascii, decimal, maxDigits, hex}
 
@@ -16,6 +16,7 @@ name Aborted = ascii " aborted"
 name Long = ascii " long"
 name Short = ascii " short"
 name BadCheck = ascii " bad"
+name BadPair = ascii " pair"
 name BadEscape = ascii " escape"
 name Skipped = ascii " skipped"
 
@@ -26,6 +27,7 @@ details Aborted d = []
 details Long d = []
 details Short d = []
 details BadCheck d = []
+details BadPair d = []
 details BadEscape d = []
 details Skipped d = []
 

@@ -17,6 +17,7 @@ pub enum Entry {
     Long,
     Short,
     BadCheck,
+    BadPair,
     BadEscape,
     Skipped,
 }
@@ -62,7 +63,7 @@ fn put_name(entry: Entry, out: &mut [u8], at: usize) -> usize
     ensures { λ _. ⌜ now (out .exit) ≡ putInto (name entry) (now (out .entry)) at ⌝ }
 {
     put_part(
-        b" frame aborted long short bad escape skipped",
+        b" frame aborted long short bad pair escape skipped",
         name_start(entry),
         name_end(entry),
         out,
@@ -88,8 +89,9 @@ fn name_start(entry: Entry) -> usize
         Entry::Long => 14,
         Entry::Short => 19,
         Entry::BadCheck => 25,
-        Entry::BadEscape => 29,
-        Entry::Skipped => 36,
+        Entry::BadPair => 29,
+        Entry::BadEscape => 34,
+        Entry::Skipped => 41,
     }
 }
 
@@ -102,8 +104,9 @@ fn name_end(entry: Entry) -> usize
         Entry::Long => 19,
         Entry::Short => 25,
         Entry::BadCheck => 29,
-        Entry::BadEscape => 36,
-        Entry::Skipped => 44,
+        Entry::BadPair => 34,
+        Entry::BadEscape => 41,
+        Entry::Skipped => 49,
     }
 }
 

@@ -8,7 +8,7 @@ use Rattle.octets.specs.Sum.{sum}
 use Rattle.qaft.specs.Escape.{isFlowControl, isEscaped}
 use Rattle.qaft.specs.Check.{checkOctet}
 use Rattle.qaft.specs.Frame.{frame}
-use Rattle.qaft_rules.specs.Rules.{verdict}
+use Rattle.qaft_rules.specs.Rules.{verdict, isBadPair}
 use Rattle.line.specs.Scan.{after, scanOn, scan}
 use Rattle.qaft_read.specs.State.{malformed}
 use Rattle.qaft_read.specs.Step.{action}
@@ -22,5 +22,5 @@ use Rattle.afp_write.specs.Frame.{frameOf, headerBefore, headerOf, withCheck}
 use Rattle.paper.specs.Table.{Each, table}
 
 pub cases : Each table
-unfolding table read refusals scanCall callOf outcomeOf scan scanOn after action malformed stepInto closedInto inSegmentInto storedInto awaiting joined verdict frame framing.frame escaped escapedOne isEscaped isFlowControl checkOctet sum reportsOf reportsOfSegments reportsOfSegment reportsOfOctets judged unescape onto ontoPair checkOf checkFrom unskipped segments atFront afterFlag arrivalOf sumFrom frameOf withCheck headerOf headerBefore headerSum nextOffset nextStationSum stationsOf stationsFrom nextAfter closedAt validId validSuffix callsignLength allGraphic isCallsign isGraphic checkSequence feedAll feed feedBits feedBit
+unfolding table read refusals scanCall callOf outcomeOf scan scanOn after action malformed stepInto closedInto inSegmentInto storedInto awaiting joined verdict isBadPair frame framing.frame escaped escapedOne isEscaped isFlowControl checkOctet sum reportsOf reportsOfSegments reportsOfSegment reportsOfOctets judged unescape onto ontoPair checkOf checkFrom unskipped segments atFront afterFlag arrivalOf sumFrom frameOf withCheck headerOf headerBefore headerSum nextOffset nextStationSum stationsOf stationsFrom nextAfter closedAt validId validSuffix callsignLength allGraphic isCallsign isGraphic checkSequence feedAll feed feedBits feedBit
 cases = ((refl, (refl, refl)), ((refl, (refl, refl)), ((refl, (refl, refl)), ((refl, (refl, refl)), ((refl, (refl, refl)), ((refl, (refl, refl)), ((refl, (refl, refl)), ((refl, (refl, refl)), ((refl, (refl, refl)), ((refl, (refl, refl)), (refl, (refl, (refl, (refl, tt))))))))))))))

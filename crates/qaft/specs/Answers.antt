@@ -44,3 +44,7 @@ badCheck = 14
 -- "portion used up without a report"
 abbrev pub usedUp : ℕ
 usedUp = 15
+
+-- "report 16 bad pair" (2026-04)
+abbrev pub badPair : ℕ
+badPair = 16

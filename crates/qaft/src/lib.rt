@@ -54,6 +54,8 @@ pub const BAD_CHECK: u8 = 14;
 
 pub const USED_UP: u8 = 15;
 
+pub const BAD_PAIR: u8 = 16;
+
 // The octets that a level escapes.
 pub fn escapes(level: u8) -> Escapes
     ensures { λ r. ⌜ r ≡ escapesOf level ⌝ }

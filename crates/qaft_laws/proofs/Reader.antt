@@ -1,12 +1,12 @@
 -- The reader as framing sees it: what no call refuses stays so, its calls are scans, and every other state and buffer is refused. Assumes nothing.
 use Prim.Native.Nat.{ℕ, _≤_}
-use mathlib.Core.Bool.{Bool, true, false, not, _&&_, _||_}
+use mathlib.Core.Bool.{Bool, true, false}
 use mathlib.Core.List.{List}
 use mathlib.Core.Logic.{_⊎_, inl, inr}
 use mathlib.Core.Option.{Option, none, some}
 use mathlib.Core.Path.{_≡_, refl, ap, _∙_}
 use borrow.Author.Tests.{ltb-true, ltb-false}
-use lib.Dec.{ltb, eqb}
+use lib.Dec.{ltb}
 use lib.ListN.{length}
 use Rattle.framing.proofs.Formed.{step-keeps}
 use Rattle.framing.proofs.Formed as framing
@@ -20,7 +20,7 @@ use Rattle.line.proofs.Simulation.{octet-keeps, trace-simulates}
 use Rattle.line.specs.Scan.{Scan, scan}
 use Rattle.line.specs.Trace.{Trace, trace}
 use Rattle.qaft.specs.Answers.{badLevel, bufferTooSmall, badState}
-use Rattle.qaft.specs.Limits.{maxLevel, maxSegment, countCap}
+use Rattle.qaft.specs.Limits.{maxLevel, maxSegment}
 use Rattle.qaft_laws.proofs.Rules.{lawful}
 use Rattle.qaft_read.proofs.Refusals.{Fit, read-badLevel, read-bufferTooSmall, read-badState, read-scan}
 use Rattle.qaft_read.proofs.Scanning.{commutes}
@@ -38,14 +38,7 @@ fit-view r m h = record { room = h .room; formed = h .formed }
 
 fit-place : (level : ℕ) → level ≤ maxLevel → (s : State ℕ) (m : List ℕ) → framing.Fit (rules level) s m → Fit (place level s) m
 unfolding malformed steps.malformed
-fit-place level l s m h = record { level = l; room = h .room; formed = go (eqb (s .count) 0) (s .bad) (ltb countCap (s .count)) (not (eqb (s .check) 0)) _ (h .formed) }
-  where
-    -- framing asks besides that no bad pair is marked in an empty segment
-    go : (z b o c f : Bool) → (o || ((z && (b || c)) || f)) ≡ false → (o || ((z && c) || f)) ≡ false
-    go z b true c f e = e
-    go false b false c f e = e
-    go true true false c f e = cc
-    go true false false c f e = e
+fit-place level l s m h = record { level = l; room = h .room; formed = h .formed }
 
 -- one octet keeps it
 pub action-keeps : (r : Reader) (x : ℕ) (m : List ℕ) → Fit r m → Keeps action Fit (action r x) m

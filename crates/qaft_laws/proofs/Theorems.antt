@@ -13,12 +13,15 @@ use lib.Seq.{sets}
 use Rattle.common.proofs.Each.{Each}
 use Rattle.common.proofs.Refusals.{guarded-map}
 use Rattle.common.specs.Refusals.{guarded}
+use Rattle.framing.proofs.Bodies.{segment-written, bodies-written, reports-of-bodies, frames-written}
+use Rattle.framing.proofs.Canonical.{NoFlag}
 use Rattle.framing.proofs.Skipped.{reportsOf-skipping}
 use Rattle.framing.proofs.Stored.{scan-stored}
 use Rattle.framing.proofs.Strewn.{strewn-between, strewn-unskipped, unskipped-strewn}
 use Rattle.framing.proofs.Theorems as framing
-use Rattle.framing.proofs.Written.{reportsOf-frames}
-use Rattle.framing.specs.Reports.{unskipped, reportsOf, shownReports}
+use Rattle.framing.proofs.Written.{unskipped-escaped, reports-escaped, reportsOf-frames}
+use Rattle.framing.specs.Bodies.{Octets, bodiesOf}
+use Rattle.framing.specs.Reports.{Reported, unskipped, unescape, judged, reportsOfOctets, reportsOfSegment, reportsOf, shownReports}
 use Rattle.framing.specs.Step.{step}
 use Rattle.framing.specs.Step as steps
 use Rattle.framing.specs.Stored.{undoneIn}
@@ -31,10 +34,11 @@ use Rattle.line.specs.Scan.{Scan}
 use Rattle.line.specs.Trace.{Trace, trace, noEvent, readChunks}
 use Rattle.qaft.specs.Answers.{badLevel, bufferTooSmall, badState}
 use Rattle.qaft.specs.Escape.{isFlowControl, writing}
-use Rattle.qaft.specs.Frame.{sealed, line}
-use Rattle.qaft.specs.Limits.{maxLevel, maxSegment}
+use Rattle.qaft.specs.Frame.{sealed, body, line}
+use Rattle.qaft.specs.Limits.{maxLevel, maxData, maxSegment}
+use Rattle.qaft_laws.proofs.Faithful.{canonical, faithful}
 use Rattle.qaft_laws.proofs.Reader.{fit-view, action-keeps, readScan-scan, calls, fit-or-refused}
-use Rattle.qaft_laws.proofs.Rules.{lawful, undoes, all-accepted}
+use Rattle.qaft_laws.proofs.Rules.{lawful, undoes, sealed-accepted, all-accepted}
 use Rattle.qaft_read.proofs.Refusals.{Fit, read-ind}
 use Rattle.qaft_read.proofs.Scanning.{commutes}
 use Rattle.qaft_read.specs.Read.{Call, callOf, scanCall, refusal, refusals, read, readScan}
@@ -112,10 +116,10 @@ stays-well-formed r xs m e =
 
 pub corners-are-well-formed :
     ((level : ℕ) → malformed (fresh level) ≡ false)
-    × ((level s : ℕ) (b : Bool) → malformed (record { level = level; synced = true; pending = b; count = 2562; sum = s }) ≡ false)
-    × ((level : ℕ) → malformed (record { level = level; synced = true; pending = true; count = 0; sum = 0 }) ≡ false)
+    × ((level s : ℕ) (p b : Bool) → malformed (record { level = level; synced = true; pending = p; count = 2562; sum = s; «bad_pair» = b }) ≡ false)
+    × ((level : ℕ) → malformed (record { level = level; synced = true; pending = true; count = 0; sum = 0; «bad_pair» = false }) ≡ false)
 unfolding malformed
-corners-are-well-formed = (λ level. refl, λ level s b. refl, λ level. refl)
+corners-are-well-formed = (λ level. refl, λ level s p b. refl, λ level. refl)
 
 -- 6. The reader judges by its state alone: a buffer of the same length with other contents changes no answer.
 pub answers-by-state-alone : (r : Reader) (xs m n : List ℕ) → length m ≡ length n → read r xs m .answer ≡ read r xs n .answer
@@ -161,3 +165,51 @@ flow-control-anywhere = strewn-between (isFlowControl 1)
 
 pub flow-control-taken-out : (l : List ℕ) → Strewn (isFlowControl 1) (unskipped (rules 1) l) l
 flow-control-taken-out = unskipped-strewn (rules 1)
+
+-- 8. Demand 2's sentence of 2026-04, "a body that reads as a frame is exactly the body our writer makes for it, raw flow control at level 1 set aside".
+-- s is what stands between two flags: it reads as the frame of d exactly where, without flow control, it is the body of d.
+module _ (level : ℕ) where
+  pub frame-is-its-body : (s : List ℕ) → NoFlag (rules level) s → Octets s → (d : List ℕ) → reportsOfSegment (rules level) s ≡ framed d ∷ [] → unskipped (rules level) s ≡ body level d
+  unfolding body
+  frame-is-its-body = segment-written (rules level) (writing level) (canonical level) sealed framed (faithful level)
+
+  pub body-is-its-frame : (s d : List ℕ) → 1 ≤ length d → length d ≤ maxData → unskipped (rules level) s ≡ body level d → reportsOfSegment (rules level) s ≡ framed d ∷ []
+  unfolding body reportsOfSegment
+  body-is-its-frame s d some most e =
+      let ok = sealed-accepted level d some most in
+      ap (reportsOfOctets (rules level)) (e ∙ sym (unskipped-escaped (rules level) (writing level) (undoes level) (sealed d)))
+      ∙ reports-escaped (rules level) (writing level) (undoes level) (sealed d) (ok .0)
+      ∙ ap (λ (r : Reported Report). r ∷ []) (ok .1)
+
+  -- so s is the body with flow control put in; at level 0 it is the body itself
+  pub frame-strewn : (s : List ℕ) → NoFlag (rules level) s → Octets s → (d : List ℕ) → reportsOfSegment (rules level) s ≡ framed d ∷ [] → Strewn (isFlowControl level) (body level d) s
+  frame-strewn s f h d e = subst (λ (b : List ℕ). Strewn (isFlowControl level) b s) (frame-is-its-body s f h d e) (unskipped-strewn (rules level) s)
+
+  -- and two that read as the same frame differ in flow control alone
+  pub same-frame-same-body : (s t : List ℕ) → NoFlag (rules level) s → NoFlag (rules level) t → Octets s → Octets t → (d : List ℕ)
+      → reportsOfSegment (rules level) s ≡ framed d ∷ [] → reportsOfSegment (rules level) t ≡ framed d ∷ [] → unskipped (rules level) s ≡ unskipped (rules level) t
+  same-frame-same-body s t f g h k d e q = frame-is-its-body s f h d e ∙ sym (frame-is-its-body t g k d q)
+
+  -- Of a line: every report is that of a body, and each body that reads as a frame is the one that is written for it, whatever stands beside it
+  pub frames-among-others : (l : List ℕ) → Octets l → Each (λ (b : List ℕ). (d : List ℕ) → judged (rules level) (unescape (rules level) b) ≡ framed d → b ≡ body level d) (bodiesOf (rules level) l)
+  unfolding body
+  frames-among-others = bodies-written (rules level) (writing level) (canonical level) sealed framed (faithful level)
+
+  pub reports-are-of-bodies : (l : List ℕ) → map (λ (b : List ℕ). judged (rules level) (unescape (rules level) b)) (bodiesOf (rules level) l) ≡ reportsOf (rules level) l
+  reports-are-of-bodies = reports-of-bodies (rules level)
+
+  -- As a caller reads it, however it is cut: where frames alone are reported, the line has their bodies and no others
+  pub read-frames-are-written : level ≤ maxLevel → (m : List ℕ) → maxSegment ≤ length m → (l : List ℕ) → Octets l → (xss : List (List ℕ)) → flatten xss ≡ l → (ds : List (List ℕ))
+      → shownReports (rules level) (readChunks readScan (fresh level) xss m .events) ≡ map framed ds → bodiesOf (rules level) l ≡ map (body level) ds
+  unfolding body
+  read-frames-are-written k m room l h xss e ds q =
+      frames-written (rules level) (writing level) (canonical level) sealed framed (faithful level) l h ds (sym (reads-what-the-line-reports level k m room l xss e) ∙ q)
+
+-- at level 0 nothing is skipped
+unskipped-level-0 : (s : List ℕ) → unskipped (rules 0) s ≡ s
+unfolding unskipped isFlowControl
+unskipped-level-0 [] = refl
+unskipped-level-0 (x ∷ s) = ap (λ (s : List ℕ). x ∷ s) (unskipped-level-0 s)
+
+pub frame-is-its-body-at-0 : (s : List ℕ) → NoFlag (rules 0) s → Octets s → (d : List ℕ) → reportsOfSegment (rules 0) s ≡ framed d ∷ [] → s ≡ body 0 d
+frame-is-its-body-at-0 s f h d e = sym (unskipped-level-0 s) ∙ frame-is-its-body 0 s f h d e

@@ -1,4 +1,5 @@
-// The QAFT reader in plain numbers, for C programs: whether a flag has come and whether a 7D waits are numbers, and any number may come.
+// The QAFT reader in plain numbers, for C programs: whether a flag has come, whether a 7D waits and whether a bad pair came are numbers,
+// and any number may come.
 // A call is the reader's of the crate qaft_read; its answer is in plain numbers too.
 ghost use mathlib.Core.Path.{_≡_};
 ghost use Rattle.qaft_read.specs.State.{fresh};
@@ -14,6 +15,7 @@ pub struct PlainReader {
     pub pending: u8,
     pub count: usize,
     pub sum: u8,
+    pub bad_pair: u8,
 }
 
 // The report or refusal, the octets taken, the data octets shown, the state for the next call.
@@ -59,6 +61,7 @@ impl PlainReader {
             pending: truths::truth(self.pending),
             count: self.count,
             sum: self.sum,
+            bad_pair: truths::truth(self.bad_pair),
         }
     }
 
@@ -84,5 +87,6 @@ fn plain(r: Reader) -> PlainReader
         pending: truths::bit(r.pending),
         count: r.count,
         sum: r.sum,
+        bad_pair: truths::bit(r.bad_pair),
     }
 }

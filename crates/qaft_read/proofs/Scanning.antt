@@ -13,7 +13,7 @@ use Rattle.deframer.specs.declared.Scanned.{Scanned}
 use Rattle.framing.proofs.Steps.{stepInto-map}
 use Rattle.framing.specs.Closing.{verdictOn}
 use Rattle.framing.specs.Rules.{State}
-use Rattle.framing.specs.Step.{joined, awaiting, storedInto, inSegmentInto, closedInto, stepInto, step}
+use Rattle.framing.specs.Step.{step}
 use Rattle.line.specs.Scan.{advance, store, emit, Scan, scan}
 use Rattle.line.specs.Simulation.{placeAction}
 use Rattle.qaft.specs.Limits.{maxSegment}
@@ -27,20 +27,12 @@ use Rattle.qaft_read.specs.declared.Reader.{Reader}
 use Rattle.qaft_read.specs.declared.Verdict.the-variants.{Open, Closed}
 use Rattle.qaft_report.specs.declared.Outcome.the-variants.{Reported, UsedUp}
 use Rattle.qaft_report.specs.declared.Report.{Report}
-use Rattle.qaft_rules.specs.Rules.{verdict, rules}
+use Rattle.qaft_rules.specs.Rules.{rules}
 
--- ---- the reader's step is framing's, whatever mark of bad pairs framing's state has: QAFT's rules look at none
-module _ (level : ℕ) where
-  placed : (s : State ℕ) (x : ℕ)
-      → action (place level s) x ≡ stepInto (rules level) (λ t. advance (place level t)) (λ t i y. store (place level t) i y) (λ p t. emit p (place level t)) s x
-  unfolding action stepInto inSegmentInto storedInto closedInto joined awaiting verdict
-  placed s x = refl
-
-  pub commutes : (s : State ℕ) (x : ℕ) → action (place level s) x ≡ placeAction (place level) (step (rules level) s x)
-  unfolding step
-  commutes s x =
-      placed s x
-      ∙ sym (stepInto-map (rules level) (λ t. advance t) (λ t i y. store t i y) (λ p t. emit p t) (placeAction (place level)) s x)
+-- the reader's step is framing's
+pub commutes : (level : ℕ) (s : State ℕ) (x : ℕ) → action (place level s) x ≡ placeAction (place level) (step (rules level) s x)
+unfolding action step
+commutes level s x = sym (stepInto-map (rules level) (λ t. advance t) (λ t i y. store t i y) (λ p t. emit p t) (placeAction (place level)) s x)
 
 -- ---- a call: u and m′ are what the loop gave back, and the buffer after it
 module _ (r : Reader) (xs m : List ℕ) (room : maxSegment ≤ length m) (u : Scanned) (m′ : List ℕ)

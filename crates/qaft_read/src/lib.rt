@@ -22,6 +22,7 @@ pub struct Reader {
     pub pending: bool,
     pub count: usize,
     pub sum: u8,
+    pub bad_pair: bool,
 }
 
 // The verdict on a segment: none while it is open, a report where a flag closed it.
@@ -48,6 +49,7 @@ impl Reader {
             pending: false,
             count: 0,
             sum: 0,
+            bad_pair: false,
         }
     }
 
@@ -88,6 +90,9 @@ impl Reader {
             return false;
         }
         if n == 0 {
+            if self.bad_pair {
+                return false;
+            }
             if self.sum != 0 {
                 return false;
             }
@@ -131,7 +136,7 @@ impl Reader {
         State {
             synced: self.synced,
             pending: self.pending,
-            bad: false,
+            bad: self.bad_pair,
             count: self.count,
             check: self.sum as u16,
         }
@@ -148,6 +153,7 @@ impl Reader {
             pending: s.pending,
             count: s.count,
             sum: s.check as u8,
+            bad_pair: s.bad,
         }
     }
 
@@ -161,19 +167,20 @@ impl Reader {
             pending: false,
             count: 0,
             sum: 0,
+            bad_pair: false,
         }
     }
 }
 
 // How the deframer is to read at a level: raw octets that the level escapes are its flag, its escape, and flow control, which is
-// skipped.
+// skipped; a pair that stands for no such octet is bad.
 pub fn rule(level: u8) -> Rule
     ensures { λ r. ⌜ r ≡ rule level ⌝ }
 {
     Rule {
         escapes: qaft::escapes(level),
         mask: qaft::MASK,
-        strict: false,
+        strict: true,
         cap: qaft::MAX_SEGMENT as u16,
         check: deframer::SUM,
     }
@@ -195,6 +202,9 @@ pub fn report_on(s: State) -> Report
 {
     if s.pending {
         return Report::Aborted;
+    }
+    if s.bad {
+        return Report::BadPair;
     }
     let n = s.count;
     if qaft::MAX_SEGMENT < n {

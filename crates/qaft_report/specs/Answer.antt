@@ -4,11 +4,11 @@ use mathlib.Core.Bool.{cond}
 use mathlib.Core.List.{List, []}
 use lib.Dec.{leb}
 use lib.ListN.{length, take}
-use Rattle.qaft.specs.Answers.{frame, aborted, long, short, badCheck, usedUp}
+use Rattle.qaft.specs.Answers.{frame, aborted, long, short, badCheck, usedUp, badPair}
 use Rattle.qaft_report.specs.declared.Outcome.{Outcome}
 use Rattle.qaft_report.specs.declared.Outcome.the-variants.{Refused, Reported, UsedUp}
 use Rattle.qaft_report.specs.declared.Report.{Report}
-use Rattle.qaft_report.specs.declared.Report.the-variants.{Frame, Aborted, Long, Short, BadCheck}
+use Rattle.qaft_report.specs.declared.Report.the-variants.{Frame, Aborted, Long, Short, BadCheck, BadPair}
 
 -- the number given back
 abbrev pub reportNumber : Report → ℕ
@@ -17,6 +17,7 @@ reportNumber Aborted = aborted
 reportNumber Long = long
 reportNumber Short = short
 reportNumber BadCheck = badCheck
+reportNumber BadPair = badPair
 
 abbrev pub number : Outcome → ℕ
 number (Refused n) = n
@@ -30,6 +31,7 @@ reportLength Aborted = 0
 reportLength Long = 0
 reportLength Short = 0
 reportLength BadCheck = 0
+reportLength BadPair = 0
 
 abbrev pub dataLength : Outcome → ℕ
 dataLength (Refused n) = 0

@@ -10,6 +10,7 @@ pub enum Report {
     Long,
     Short,
     BadCheck,
+    BadPair,
 }
 
 // What a call comes to: a refusal by its number, a report, or a chunk used up without one.
@@ -30,6 +31,7 @@ impl Report {
             Report::Long => qaft::LONG,
             Report::Short => qaft::SHORT,
             Report::BadCheck => qaft::BAD_CHECK,
+            Report::BadPair => qaft::BAD_PAIR,
         }
     }
 
@@ -43,6 +45,7 @@ impl Report {
             Report::Long => 0,
             Report::Short => 0,
             Report::BadCheck => 0,
+            Report::BadPair => 0,
         }
     }
 

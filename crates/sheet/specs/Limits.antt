@@ -7,7 +7,7 @@ lines = 64
 
 -- the counts of a line
 abbrev pub countsLong : ℕ
-countsLong = 13
+countsLong = 14
 
 -- "a count that would pass 32 bits refuses the capture"
 abbrev pub maxCount : ℕ

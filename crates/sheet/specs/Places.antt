@@ -19,7 +19,7 @@ afterAt = 3
 abbrev pub skippedAt : ℕ
 skippedAt = 4
 
--- "reports of each kind": 10 to 14, and the place behind them
+-- "reports of each kind" by number: 10 to 14, then 16 (2026-04), and the place behind them
 abbrev pub framesAt : ℕ
 framesAt = 5
 
@@ -35,15 +35,18 @@ shortAt = 8
 abbrev pub badChecksAt : ℕ
 badChecksAt = 9
 
+abbrev pub badPairsAt : ℕ
+badPairsAt = 10
+
 abbrev pub reportsEnd : ℕ
-reportsEnd = badChecksAt + 1
+reportsEnd = badPairsAt + 1
 
 -- "DATA, DACK and repeats"
 abbrev pub dataAt : ℕ
-dataAt = 10
+dataAt = 11
 
 abbrev pub dackAt : ℕ
-dackAt = 11
+dackAt = 12
 
 abbrev pub repeatsAt : ℕ
-repeatsAt = 12
+repeatsAt = 13

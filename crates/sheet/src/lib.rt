@@ -7,8 +7,8 @@ ghost use Rattle.sheet.specs.Tallies.{freshTally};
 pub const LINES: usize = 64;
 
 // Counts of a line, in the order in which they are printed: octets before the first flag, flags, octets in reported segments, octets
-// after the last flag, skipped octets between two flags; reports 10 to 14; DATA, DACK, repeats.
-pub const COUNTS: usize = 13;
+// after the last flag, skipped octets between two flags; reports 10 to 14 and 16; DATA, DACK, repeats.
+pub const COUNTS: usize = 14;
 
 pub const BEFORE: usize = 0;
 
@@ -30,11 +30,13 @@ pub const SHORT: usize = 8;
 
 pub const BAD_CHECKS: usize = 9;
 
-pub const DATA: usize = 10;
+pub const BAD_PAIRS: usize = 10;
 
-pub const DACK: usize = 11;
+pub const DATA: usize = 11;
 
-pub const REPEATS: usize = 12;
+pub const DACK: usize = 12;
+
+pub const REPEATS: usize = 13;
 
 // The largest count of a line, of 32 bits; what a capture adds is counted up to one more, which is already too large for every line.
 pub const MAX_COUNT: u64 = 4294967295;

@@ -82,7 +82,7 @@ countsWith c before after = let k = c .octets .kept in let f = c .found in recor
   number = done;
   counts =
       before ∷ k .flags ∷ k .between ∷ after ∷ c .octets .skipped .between
-      ∷ f .frames ∷ f .aborted ∷ f .long ∷ f .short ∷ f .«bad_checks»
+      ∷ f .frames ∷ f .aborted ∷ f .long ∷ f .short ∷ f .«bad_checks» ∷ f .«bad_pairs»
       ∷ f .«data_packets» ∷ f .«dack_packets» ∷ f .repeats ∷ [];
 }
 

@@ -102,6 +102,7 @@ impl Counter {
                 f.long,
                 f.short,
                 f.bad_checks,
+                f.bad_pairs,
                 f.data_packets,
                 f.dack_packets,
                 f.repeats,

@@ -6,7 +6,7 @@ use lib.Dec.{eqb}
 use Rattle.dlc_packet.specs.Packet.{kindOf}
 use Rattle.dlc_packet.specs.declared.Kind.{Kind}
 use Rattle.framing.specs.Reports.{Reported}
-use Rattle.qaft.specs.Answers.{frame, aborted, long, short, badCheck}
+use Rattle.qaft.specs.Answers.{frame, aborted, long, short, badCheck, badPair}
 use Rattle.qaft_report.specs.Answer.{reportNumber}
 use Rattle.qaft_report.specs.declared.Report.{Report}
 use Rattle.sheet_found.specs.Found.{more, foundWith}
@@ -29,20 +29,22 @@ module _ (f : Found) (r : Reported Report) (n : ℕ) (k : Kind) (ne : n ≡ repo
       → g .long ≡ more (eqb n long) (f .long)
       → g .short ≡ more (eqb n short) (f .short)
       → g .«bad_checks» ≡ more (eqb n badCheck) (f .«bad_checks»)
+      → g .«bad_pairs» ≡ more (eqb n badPair) (f .«bad_pairs»)
       → (b : Bool) → b ≡ isData k → g .«data_packets» ≡ more b (f .«data_packets»)
       → (c : Bool) → c ≡ isDack k → g .«dack_packets» ≡ more c (f .«dack_packets»)
       → (d : Bool) → d ≡ isNumbered (f .last) k → g .repeats ≡ more d (f .repeats)
       → g .last ≡ numberAfter (f .last) k
       → g ≡ foundWith f r
   unfolding foundWith
-  with-made g e₁ e₂ e₃ e₄ e₅ b be e₆ c ce e₇ d de e₈ e₉ = λ i. record {
+  with-made g e₁ e₂ e₃ e₄ e₅ e₆ b be e₇ c ce e₈ d de e₉ e₁₀ = λ i. record {
     frames = kinded frame (f .frames) (g .frames) e₁ i;
     aborted = kinded aborted (f .aborted) (g .aborted) e₂ i;
     long = kinded long (f .long) (g .long) e₃ i;
     short = kinded short (f .short) (g .short) e₄ i;
     «bad_checks» = kinded badCheck (f .«bad_checks») (g .«bad_checks») e₅ i;
-    «data_packets» = packet isData (f .«data_packets») (g .«data_packets») b be e₆ i;
-    «dack_packets» = packet isDack (f .«dack_packets») (g .«dack_packets») c ce e₇ i;
-    repeats = packet (isNumbered (f .last)) (f .repeats) (g .repeats) d de e₈ i;
-    last = (e₉ ∙ ap (numberAfter (f .last)) ke) i;
+    «bad_pairs» = kinded badPair (f .«bad_pairs») (g .«bad_pairs») e₆ i;
+    «data_packets» = packet isData (f .«data_packets») (g .«data_packets») b be e₇ i;
+    «dack_packets» = packet isDack (f .«dack_packets») (g .«dack_packets») c ce e₈ i;
+    repeats = packet (isNumbered (f .last)) (f .repeats) (g .repeats) d de e₉ i;
+    last = (e₁₀ ∙ ap (numberAfter (f .last)) ke) i;
   }

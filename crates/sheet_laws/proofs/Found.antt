@@ -10,7 +10,7 @@ use Rattle.dlc_packet.specs.Packet.{kindOf}
 use Rattle.framing.specs.Reports.{Reported, shownReports}
 use Rattle.line.specs.Gather.{makeAll}
 use Rattle.line.specs.Trace.{Event}
-use Rattle.qaft.specs.Answers.{frame, aborted, long, short, badCheck}
+use Rattle.qaft.specs.Answers.{frame, aborted, long, short, badCheck, badPair}
 use Rattle.qaft_report.specs.declared.Report.{Report}
 use Rattle.qaft_rules.specs.Rules.{rules}
 use Rattle.sheet.specs.Limits.{tooLarge}
@@ -35,6 +35,7 @@ foundWhole f rs = record {
   long = counted tooLarge (f .long) (countOf (isKind long) rs);
   short = counted tooLarge (f .short) (countOf (isKind short) rs);
   «bad_checks» = counted tooLarge (f .«bad_checks») (countOf (isKind badCheck) rs);
+  «bad_pairs» = counted tooLarge (f .«bad_pairs») (countOf (isKind badPair) rs);
   «data_packets» = counted tooLarge (f .«data_packets») (countOf hasData rs);
   «dack_packets» = counted tooLarge (f .«dack_packets») (countOf hasDack rs);
   repeats = counted tooLarge (f .repeats) (repeatsFrom (f .last) rs);
@@ -49,6 +50,7 @@ found-none f = λ i. record {
   long = sym (counted-none tooLarge (f .long)) i;
   short = sym (counted-none tooLarge (f .short)) i;
   «bad_checks» = sym (counted-none tooLarge (f .«bad_checks»)) i;
+  «bad_pairs» = sym (counted-none tooLarge (f .«bad_pairs»)) i;
   «data_packets» = sym (counted-none tooLarge (f .«data_packets»)) i;
   «dack_packets» = sym (counted-none tooLarge (f .«dack_packets»)) i;
   repeats = sym (counted-none tooLarge (f .repeats)) i;
@@ -63,6 +65,7 @@ found-next f r rs = λ i. record {
   long = one-before (isKind long r) (f .long) (countOf (isKind long) rs) i;
   short = one-before (isKind short r) (f .short) (countOf (isKind short) rs) i;
   «bad_checks» = one-before (isKind badCheck r) (f .«bad_checks») (countOf (isKind badCheck) rs) i;
+  «bad_pairs» = one-before (isKind badPair r) (f .«bad_pairs») (countOf (isKind badPair) rs) i;
   «data_packets» = one-before (hasData r) (f .«data_packets») (countOf hasData rs) i;
   «dack_packets» = one-before (hasDack r) (f .«dack_packets») (countOf hasDack rs) i;
   repeats = one-before (isNumbered (f .last) (kindOf (r .octets))) (f .repeats) (repeatsFrom (foundWith f r .last) rs) i;

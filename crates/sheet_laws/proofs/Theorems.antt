@@ -11,7 +11,7 @@ use Rattle.framing.specs.Rules.{State}
 use Rattle.framing.specs.Step.{fresh, step}
 use Rattle.line.specs.Gather.{makeAll}
 use Rattle.line.specs.Trace.{trace}
-use Rattle.qaft.specs.Answers.{done, frame, aborted, long, short, badCheck}
+use Rattle.qaft.specs.Answers.{done, frame, aborted, long, short, badCheck, badPair}
 use Rattle.qaft.specs.Limits.{maxLevel, maxSegment}
 use Rattle.qaft_laws.proofs.Rules.{lawful}
 use Rattle.qaft_rules.specs.Rules.{rules}
@@ -58,6 +58,7 @@ module _ (level : ℕ) (h : level ≤ maxLevel) (m : List ℕ) (room : maxSegmen
             ∷ c (countOf (isKind long) rs)
             ∷ c (countOf (isKind short) rs)
             ∷ c (countOf (isKind badCheck) rs)
+            ∷ c (countOf (isKind badPair) rs)
             ∷ c (countOf hasData rs)
             ∷ c (countOf hasDack rs)
             ∷ c (sym (repeats-from-none rs) i)

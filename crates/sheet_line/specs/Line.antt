@@ -4,7 +4,8 @@
 --   lineText line cs   the line of record number line, which has the counts cs
 --
 -- "Printed is one line a record, from 0: its number, the counts as named above (kinds by number), the share of bad checks in all reports as
--- two whole numbers in lowest terms, "0/1" where nothing was reported; one space between." The fifth octet count "is printed after the four" (2026-02).
+-- two whole numbers in lowest terms, "0/1" where nothing was reported; one space between." The fifth octet count "is printed after the four" (2026-02); bad pairs
+-- (16) are printed after bad checks (14), and are among all reports (2026-04).
 use Prim.Native.Nat.{ℕ, _+_, _*_}
 use mathlib.Core.List.{List, [], _∷_, _++_}
 use lib.ListN.{take, drop, getD}

@@ -15,7 +15,7 @@ const NUMBERS: usize = sheet::COUNTS + 3;
 pub const MAX_LINE: usize = NUMBERS * (text::MAX_DIGITS + 1);
 
 // The counts of reports stand from sheet::FRAMES up to here.
-const REPORTS_END: usize = sheet::BAD_CHECKS + 1;
+const REPORTS_END: usize = sheet::BAD_PAIRS + 1;
 
 // Puts the line of record number `line` at index `at` of `out`; the index behind it. Where `out` has no room for every such line it
 // stays as it is, and so does the index.

@@ -1,4 +1,5 @@
 pub mod Octets
 pub mod Packets
+pub mod AllReports
 pub mod Repeats
 pub mod Theorems

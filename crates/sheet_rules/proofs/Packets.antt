@@ -14,12 +14,12 @@ use Rattle.framing.specs.Reports.{Reported, judged, reported, shown, unskipped,
 use Rattle.framing.specs.Step.{capped}
 use Rattle.qaft.specs.Answers.{frame}
 use Rattle.qaft_report.specs.declared.Report.{Report}
-use Rattle.qaft_report.specs.declared.Report.the-variants.{Frame, Aborted, Long, Short, BadCheck}
+use Rattle.qaft_report.specs.declared.Report.the-variants.{Frame, Aborted, Long, Short, BadCheck, BadPair}
 use Rattle.qaft_rules.specs.Rules.{rules}
 use Rattle.sheet_rules.specs.Counts.{isKind, isData, isDack, hasData, hasDack, countOf}
 
 -- what is counted of one report, if so
-abbrev one : Bool → ℕ
+abbrev pub one : Bool → ℕ
 one b = cond b 1 0
 
 -- a report that is DATA or DACK, and never both, is a frame
@@ -47,12 +47,13 @@ packet level Aborted m = bare m (shown-none m)
 packet level Long m = bare m (shown-none m)
 packet level Short m = bare m (shown-none m)
 packet level BadCheck m = bare m (shown-none m)
+packet level BadPair m = bare m (shown-none m)
 
 -- ---- lists of reports
 abbrev Fine : List (Reported Report) → Type 0
 Fine rs = countOf hasData rs + countOf hasDack rs ≤ countOf (isKind frame) rs
 
-count-cons : (p : Reported Report → Bool) (r : Reported Report) (rs : List (Reported Report)) → countOf p (r ∷ rs) ≡ one (p r) + countOf p rs
+pub count-cons : (p : Reported Report → Bool) (r : Reported Report) (rs : List (Reported Report)) → countOf p (r ∷ rs) ≡ one (p r) + countOf p rs
 unfolding countOf
 count-cons p r rs = go (p r)
   where

@@ -3,12 +3,14 @@ use Prim.Native.Nat.{ℕ, _+_, _≤_}
 use mathlib.Core.List.{List}
 use mathlib.Core.Path.{_≡_}
 use native.Mathlib.Omega.{arith}
-use lib.ListN.{length, getD}
+use lib.ListN.{length, getD, take, drop}
 use Rattle.capture.proofs.Flags.{parts-add-up}
 use Rattle.framing.specs.Reports.{afterFlag, segments, reportsOf}
+use Rattle.octets.specs.Sum.{sum}
 use Rattle.qaft.specs.Escape.{flag}
 use Rattle.qaft_rules.specs.Rules.{rules}
-use Rattle.sheet.specs.Places.{beforeAt, flagsAt, inSegmentsAt, afterAt, skippedAt, framesAt, dataAt, dackAt, repeatsAt}
+use Rattle.sheet.specs.Places.{beforeAt, flagsAt, inSegmentsAt, afterAt, skippedAt, framesAt, reportsEnd, dataAt, dackAt, repeatsAt}
+use Rattle.sheet_rules.proofs.AllReports.{kinds-add-up}
 use Rattle.sheet_rules.proofs.Octets.{skipped-between, skipped-none}
 use Rattle.sheet_rules.proofs.Packets.{packets-among}
 use Rattle.sheet_rules.proofs.Repeats.{repeats-are}
@@ -25,6 +27,11 @@ octet-counts-add-up level l = omega (arith, skipped-between level l, parts-add-u
 pub nothing-skipped-at-level-0 : (l : List ℕ) → getD (countsOf 0 l) skippedAt 0 ≡ 0
 unfolding countsOf
 nothing-skipped-at-level-0 l = skipped-none (segments (rules 0) (afterFlag (rules 0) l))
+
+-- "All reports" of the share are all of the capture: every report is of one of the kinds that are counted.
+pub reports-add-up : (level : ℕ) (l : List ℕ) → sum (drop framesAt (take reportsEnd (countsOf level l))) ≡ length (reportsOf (rules level) l)
+unfolding countsOf sum
+reports-add-up level l = omega (arith, kinds-add-up (reportsOf (rules level) l))
 
 -- 5. Repeats are equal neighbours among the numbers of the capture's DATA packets, whatever was reported between them.
 pub repeats-are-equal-neighbours : (level : ℕ) (l : List ℕ) → getD (countsOf level l) repeatsAt 0 ≡ equalsBefore (dataNumbers (reportsOf (rules level) l))

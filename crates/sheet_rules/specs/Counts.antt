@@ -1,7 +1,7 @@
 -- The line sheet: what a whole capture adds to its line, as the request counts it, over the capture with no state. Cited by the contracts and by
 -- the theorems. Assumes nothing.
 --
---   countsOf level l       the thirteen counts of the capture l, in the order in which they are printed
+--   countsOf level l       the fourteen counts of the capture l, in the order in which they are printed
 --   wholeCounts level l    the same as they are gathered: each stops where it is too large for every line
 --
 -- "Octets before the first flag, flags, octets in reported stretches, octets after the last flag, reports of each kind, DATA, DACK and repeats"; after
@@ -18,7 +18,7 @@ use Rattle.dlc_packet.specs.Packet.{kindOf}
 use Rattle.dlc_packet.specs.declared.Kind.{Kind}
 use Rattle.dlc_packet.specs.declared.Kind.the-variants.{Invalid, Reset, ResetAck, Data, Dack}
 use Rattle.framing.specs.Reports.{Reported, afterFlag, segments, unskipped, reportsOfSegment, reportsOf}
-use Rattle.qaft.specs.Answers.{done, frame, aborted, long, short, badCheck}
+use Rattle.qaft.specs.Answers.{done, frame, aborted, long, short, badCheck, badPair}
 use Rattle.qaft.specs.Escape.{flag, isFlowControl}
 use Rattle.qaft_report.specs.Answer.{reportNumber}
 use Rattle.qaft_report.specs.declared.Report.{Report}
@@ -121,6 +121,7 @@ countsOf level l =
     ∷ countOf (isKind long) rs
     ∷ countOf (isKind short) rs
     ∷ countOf (isKind badCheck) rs
+    ∷ countOf (isKind badPair) rs
     ∷ countOf hasData rs
     ∷ countOf hasDack rs
     ∷ repeatsAfter [] rs

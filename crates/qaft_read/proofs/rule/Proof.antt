@@ -1,5 +1,5 @@
 -- `qaft_read::rule` meets its contract. Assumes nothing.
-use mathlib.Core.Bool.{false}
+use mathlib.Core.Bool.{true}
 use mathlib.Core.Path.{ap}
 use borrow.Author.Needs.{needs}
 use Rattle.deframer.specs.Rule.{sumCheck}
@@ -16,7 +16,7 @@ cast-t3 : tie.Need-cast-t3
 cast-t3 c = search needs
 
 returns : tie.Need-returns
-returns c = ap (λ (e : Escapes). record { escapes = e; mask = mask; strict = false; cap = maxSegment; check = sumCheck }) (c .escapes .ensures)
+returns c = ap (λ (e : Escapes). record { escapes = e; mask = mask; strict = true; cap = maxSegment; check = sumCheck }) (c .escapes .ensures)
 
 pub rule-spec : {M : Type 1} → statement M
 rule-spec = tie.close (tie.spec escapes-requires cast-t3 returns)

@@ -22,24 +22,31 @@ returns c = simp (lt-ltb _ _ (c .if1 .taken))
 
 returns-2 : tie.Need-returns-2
 unfolding malformed
-returns-2 c = simp (le-ltb _ _ (c .before .before .before .if1 .left), eq-eqb _ _ (c .before .before .if2 .taken), ne-eqb _ _ (c .if3 .taken))
+returns-2 c = simp (le-ltb _ _ (c .before .before .if1 .left), eq-eqb _ _ (c .before .if2 .taken), c .if3 .taken)
 
 returns-3 : tie.Need-returns-3
 unfolding malformed
-returns-3 c = simp (le-ltb _ _ (c .before .before .before .before .if1 .left), eq-eqb _ _ (c .before .before .before .if2 .taken), eq-eqb _ _ (c .before .if3 .left), c .if4 .taken)
+returns-3 c = simp (le-ltb _ _ (c .before .before .before .before .if1 .left), eq-eqb _ _ (c .before .before .before .if2 .taken), c .before .before .if3 .left, ne-eqb _ _ (c .if4 .taken))
 
 returns-4 : tie.Need-returns-4
 unfolding malformed
-returns-4 c = simp (le-ltb _ _ (c .before .before .before .before .before .if1 .left), eq-eqb _ _ (c .before .before .before .before .if2 .taken), eq-eqb _ _ (c .before .before .if3 .left), c .before .if4 .left, c .if5 .taken)
+returns-4 c =
+    simp (le-ltb _ _ (c .before .before .before .before .before .if1 .left), eq-eqb _ _ (c .before .before .before .before .if2 .taken), c .before .before .before .if3 .left, eq-eqb _ _ (c .before .if4 .left), c .if5 .taken)
 
 returns-5 : tie.Need-returns-5
 unfolding malformed
-returns-5 c = simp (le-ltb _ _ (c .before .before .before .before .before .if1 .left), eq-eqb _ _ (c .before .before .before .before .if2 .taken), eq-eqb _ _ (c .before .before .if3 .left), c .before .if4 .left, c .if5 .left)
+returns-5 c =
+    simp (le-ltb _ _ (c .before .before .before .before .before .before .if1 .left), eq-eqb _ _ (c .before .before .before .before .before .if2 .taken), c .before .before .before .before .if3 .left, eq-eqb _ _ (c .before .before .if4 .left), c .before .if5 .left, c .if6 .taken)
 
 returns-6 : tie.Need-returns-6
 unfolding malformed
-returns-6 c = simp (le-ltb _ _ (c .before .if1 .left), ne-eqb _ _ (c .if2 .left)) (synced-alone (c .before .before .args .self .synced) (c .before .before .args .self .pending))
+returns-6 c =
+    simp (le-ltb _ _ (c .before .before .before .before .before .before .if1 .left), eq-eqb _ _ (c .before .before .before .before .before .if2 .taken), c .before .before .before .before .if3 .left, eq-eqb _ _ (c .before .before .if4 .left), c .before .if5 .left, c .if6 .left)
+
+returns-7 : tie.Need-returns-7
+unfolding malformed
+returns-7 c = simp (le-ltb _ _ (c .before .if1 .left), ne-eqb _ _ (c .if2 .left)) (synced-alone (c .before .before .args .self .synced) (c .before .before .args .self .pending))
 
 pub well-formed-spec : {M : Type 1} → statement M
 well-formed-spec =
-    tie.close (tie.spec add-if1 returns returns-2 returns-3 returns-4 returns-5 returns-6)
+    tie.close (tie.spec add-if1 returns returns-2 returns-3 returns-4 returns-5 returns-6 returns-7)

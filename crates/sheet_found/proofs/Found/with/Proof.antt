@@ -24,23 +24,26 @@ more-requires-4 c κs = tt
 more-requires-5 : tie.Need-more-requires-5
 more-requires-5 c κs = tt
 
-is-data-requires : tie.Need-is-data-requires
-is-data-requires c κs = tt
-
 more-requires-6 : tie.Need-more-requires-6
 more-requires-6 c κs = tt
 
-is-dack-requires : tie.Need-is-dack-requires
-is-dack-requires c κs = tt
+is-data-requires : tie.Need-is-data-requires
+is-data-requires c κs = tt
 
 more-requires-7 : tie.Need-more-requires-7
 more-requires-7 c κs = tt
 
-is-numbered-requires : tie.Need-is-numbered-requires
-is-numbered-requires c κs = tt
+is-dack-requires : tie.Need-is-dack-requires
+is-dack-requires c κs = tt
 
 more-requires-8 : tie.Need-more-requires-8
 more-requires-8 c κs = tt
+
+is-numbered-requires : tie.Need-is-numbered-requires
+is-numbered-requires c κs = tt
+
+more-requires-9 : tie.Need-more-requires-9
+more-requires-9 c κs = tt
 
 number-after-requires : tie.Need-number-after-requires
 number-after-requires c κs = tt
@@ -51,10 +54,10 @@ returns c =
     let dack = numbered .before .before in
     let sent = dack .before .before in
     let kinds = sent .before in
-    let kind = kinds .before .before .before .before .before in
-    with-made _ _ _ _ (kind .before .number .ensures) (kind .kind-of .ensures) _ (kinds .before .before .before .before .more .ensures) (kinds .before .before .before .more2 .ensures)
-    (kinds .before .before .more3 .ensures) (kinds .before .more4 .ensures) (kinds .more5 .ensures) _ (sent .is-data .ensures) (dack .before .more6 .ensures) _ (dack .is-dack .ensures)
-    (numbered .before .more7 .ensures) _ (numbered .is-numbered .ensures) (c .before .more8 .ensures) (c .number-after .ensures)
+    let kind = kinds .before .before .before .before .before .before in
+    with-made _ _ _ _ (kind .before .number .ensures) (kind .kind-of .ensures) _ (kinds .before .before .before .before .before .more .ensures) (kinds .before .before .before .before .more2 .ensures)
+    (kinds .before .before .before .more3 .ensures) (kinds .before .before .more4 .ensures) (kinds .before .more5 .ensures) (kinds .more6 .ensures) _ (sent .is-data .ensures) (dack .before .more7 .ensures) _ (dack .is-dack .ensures)
+    (numbered .before .more8 .ensures) _ (numbered .is-numbered .ensures) (c .before .more9 .ensures) (c .number-after .ensures)
 
 pub with-spec : {M : Type 1} → statement M
 with-spec =
@@ -67,11 +70,12 @@ with-spec =
     more-requires-3
     more-requires-4
     more-requires-5
-    is-data-requires
     more-requires-6
-    is-dack-requires
+    is-data-requires
     more-requires-7
-    is-numbered-requires
+    is-dack-requires
     more-requires-8
+    is-numbered-requires
+    more-requires-9
     number-after-requires
     returns)
