@@ -45,6 +45,12 @@ module _ {A R : Type 0} (rules : Rules A R) where
       let ih = unskipped-octets s (h .1) in
       either Octets (rules .skips x) (λ _. ih) (λ _. (h .0, ih))
 
+  -- where nothing is skipped
+  pub unskipped-none : ((x : ℕ) → rules .skips x ≡ false) → (s : List ℕ) → unskipped rules s ≡ s
+  unfolding unskipped
+  unskipped-none h [] = refl
+  unskipped-none h (x ∷ s) = rw (h x, unskipped-none h s)
+
   -- ---- every report is that of a body
   report-of-body : (b : List ℕ) (bs : List (List ℕ)) (rs : List (Reported R)) → map (λ (b : List ℕ). judged rules (unescape rules b)) bs ≡ rs
       → map (λ (b : List ℕ). judged rules (unescape rules b)) (ontoBodies b bs) ≡ reportsOfOctets rules b ++ rs

@@ -5,7 +5,7 @@ use mathlib.Core.List.{List}
 use mathlib.Core.Logic.{⊎-elim}
 use mathlib.Core.Path.{_≡_, refl, sym, subst}
 use native.Mathlib.Omega.{arith}
-use borrow.Author.Tests.{eqb-true, eqb-false}
+use borrow.Author.Tests.{eqb-true, eqb-false, not-false}
 use lib.Dec.{eqb}
 use Rattle.common.proofs.Bools.{or-true, or-false-left, or-false-right}
 use Rattle.escapes.specs.Escapes as escapes
@@ -16,7 +16,7 @@ use Rattle.kiss.specs.Octets.{flag, escapeOctet, escapedFlag, escapedEsc
 use Rattle.kiss.specs.Octets as kiss
 
 -- what holds of the flag and of the escape holds of every escaped octet
-isEscaped-ind : (P : ℕ → Type 0) (x : ℕ) → isEscaped x ≡ true → P flag → P escapeOctet → P x
+pub isEscaped-ind : (P : ℕ → Type 0) (x : ℕ) → isEscaped x ≡ true → P flag → P escapeOctet → P x
 unfolding isEscaped
 isEscaped-ind P x e a b =
     ⊎-elim (λ q. subst P (sym (eqb-true x flag q)) a) (λ q. subst P (sym (eqb-true x escapeOctet q)) b) (or-true (eqb x flag) (eqb x escapeOctet) e)
@@ -32,6 +32,13 @@ unfolding behind standsFor isBadEscape
 escaped-octet x e =
     isEscaped-ind (λ (y : ℕ). (eqb (behind y) flag ≡ false) × (standsFor (behind y) ≡ y) × (isBadEscape (behind y) ≡ false)) x e
     (refl, refl, refl) (refl, refl, refl)
+
+-- what stands behind an escape that is not bad stands for an escaped octet, behind which it stands
+pub good-escape : (y : ℕ) → isBadEscape y ≡ false → (isEscaped (standsFor y) ≡ true) × (behind (standsFor y) ≡ y)
+unfolding isBadEscape isEscaped standsFor behind
+good-escape y e =
+    ⊎-elim (λ q. rw (eqb-true y escapedFlag q) (refl, refl)) (λ q. rw (eqb-true y escapedEscape q) (refl, refl))
+    (or-true (eqb y escapedFlag) (eqb y escapedEscape) (not-false _ e))
 
 -- the two octets twice are the two
 twice : (a b : Bool) → (a || (b || (a || b))) ≡ (a || b)

@@ -1,3 +1,4 @@
 pub mod Rules
 pub mod Reader
+pub mod Faithful
 pub mod Theorems

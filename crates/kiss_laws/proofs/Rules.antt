@@ -1,6 +1,6 @@
 -- KISS's rules obey what framing asks of rules, and reading undoes what the writer writes. Assumes nothing.
 use Prim.Native.Nat.{ℕ, suc, _+_, _-_, _≤_, _<_}
-use mathlib.Core.Bool.{Bool, false, _||_}
+use mathlib.Core.Bool.{Bool, true, false, _||_}
 use mathlib.Core.List.{List, [], _∷_}
 use mathlib.Core.Path.{_≡_, refl}
 use native.Mathlib.Omega.{arith}
@@ -42,14 +42,19 @@ no-frame Short h = refl
 no-frame Long h = refl
 no-frame Skipped h = refl
 
--- what holds of a frame within the limits, and of every report that is none, holds of a verdict
-pub verdict-ind : (P : Report → Type 0) (d b : Bool) (n kind : ℕ) → ((p : Report) → NoFrame p → P p) → (minSegment ≤ n → n ≤ maxSegment → P (Frame (n - 1))) → P (verdict d b n kind)
+-- what holds of a frame, by what its verdict tells, and of every report that is none, holds of a verdict
+pub verdict-cases : (P : Report → Type 0) (d b : Bool) (n kind : ℕ) → ((p : Report) → NoFrame p → P p)
+    → ((d || b) ≡ false → isData kind ≡ true → minSegment ≤ n → n ≤ maxSegment → P (Frame (n - 1))) → P (verdict d b n kind)
 unfolding verdict
-verdict-ind P d b n kind bare frame =
+verdict-cases P d b n kind bare frame =
     either P (d || b) (λ _. bare BadEscape tt)
-    (λ _. either P (ltb n minSegment) (λ _. bare Short tt)
+    (λ q. either P (ltb n minSegment) (λ _. bare Short tt)
     (λ s. either P (ltb maxSegment n) (λ _. bare Long tt)
-    (λ e. either P (isData kind) (λ _. frame (ltb-false n minSegment s) (ltb-false maxSegment n e)) (λ _. bare Skipped tt))))
+    (λ e. either P (isData kind) (λ t. frame q t (ltb-false n minSegment s) (ltb-false maxSegment n e)) (λ _. bare Skipped tt))))
+
+-- the same by its length alone
+pub verdict-ind : (P : Report → Type 0) (d b : Bool) (n kind : ℕ) → ((p : Report) → NoFrame p → P p) → (minSegment ≤ n → n ≤ maxSegment → P (Frame (n - 1))) → P (verdict d b n kind)
+verdict-ind P d b n kind bare frame = verdict-cases P d b n kind bare (λ _ _. frame)
 
 -- a report shows only octets that are stored
 verdict-shows : (d b : Bool) (n kind : ℕ) → let p = verdict d b n kind in 0 < reportLength p → (typeSize + reportLength p ≤ n) × (n ≤ maxSegment)
@@ -72,7 +77,7 @@ undoes = record {
 
 -- ---- a payload behind its type octet is a frame
 -- the type octet is kept
-kept : (xs : List ℕ) (n kind : ℕ) → 0 < n → checkFrom rules n kind xs ≡ kind
+pub kept : (xs : List ℕ) (n kind : ℕ) → 0 < n → checkFrom rules n kind xs ≡ kind
 unfolding checkFrom
 kept [] n kind h = refl
 kept (x ∷ xs) n kind h = rw (ne-eqb (capped rules n) 0 (λ e. omega (arith, e, capped-some rules n h))) (kept xs (suc n) kind (omega arith))

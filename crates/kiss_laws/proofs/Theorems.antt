@@ -12,15 +12,19 @@ use lib.ListN.{length}
 use lib.Seq.{sets}
 use Rattle.common.proofs.Refusals.{guarded-map}
 use Rattle.common.specs.Refusals.{guarded}
+use Rattle.framing.proofs.Bodies.{unskipped-none, segment-written, frames-written}
+use Rattle.framing.proofs.Canonical.{NoFlag}
 use Rattle.framing.proofs.Stored.{scan-stored}
 use Rattle.framing.proofs.Theorems as framing
 use Rattle.framing.proofs.Written.{reportsOf-frames}
-use Rattle.framing.specs.Reports.{reportsOf, shownReports}
+use Rattle.framing.specs.Bodies.{Octets, bodiesOf}
+use Rattle.framing.specs.Reports.{reportsOfSegment, reportsOf, shownReports}
 use Rattle.framing.specs.Step.{step}
 use Rattle.framing.specs.Stored.{undoneIn}
-use Rattle.kiss.specs.Frame.{typed, line}
+use Rattle.kiss.specs.Frame.{typed, bodyOf, body, line}
 use Rattle.kiss.specs.Limits.{maxSegment}
 use Rattle.kiss.specs.Octets.{writing}
+use Rattle.kiss_laws.proofs.Faithful.{canonical, faithful}
 use Rattle.kiss_laws.proofs.Reader.{malformed-view, fit-view, action-keeps, readScan-scan, calls, fit-or-refused}
 use Rattle.kiss_laws.proofs.Rules.{lawful, undoes, all-accepted}
 use Rattle.kiss_read.proofs.Refusals.{Fit, read-ind}
@@ -109,6 +113,18 @@ unfolding line
 written-then-read cs ok m room xss e =
     reads-what-the-line-reports m room (line (octetsOf cs)) xss (e ∙ sent-line writeFrame writing typed done-wrote cs ok)
     ∙ reportsOf-frames rules writing undoes typed framed (octetsOf cs) (all-accepted (octetsOf cs) (done-writable writeFrame writing typed done-wrote false cs ok))
+
+-- 7. What stands between two flags and reads as a frame is exactly the body that is written for it, so two that read as the same frame are the same octets.
+pub frame-is-its-body : (s : List ℕ) → NoFlag rules s → Octets s → (d : List ℕ) → reportsOfSegment rules s ≡ framed d ∷ [] → s ≡ body d
+unfolding body bodyOf
+frame-is-its-body s f h d e = sym (unskipped-none rules (λ x. refl) s) ∙ segment-written rules writing canonical typed framed faithful s f h d e
+
+-- As a caller reads it, however it is cut: where frames alone are reported, the line has their bodies and no others
+pub read-frames-are-written : (m : List ℕ) → maxSegment ≤ length m → (l : List ℕ) → Octets l → (xss : List (List ℕ)) → flatten xss ≡ l → (ds : List (List ℕ))
+    → shownReports rules (readChunks readScan fresh xss m .events) ≡ map framed ds → bodiesOf rules l ≡ map body ds
+unfolding body bodyOf
+read-frames-are-written m room l h xss e ds q =
+    frames-written rules writing canonical typed framed faithful l h ds (sym (reads-what-the-line-reports m room l xss e) ∙ q)
 
 -- What a consumer of reports needs: a call and then the rest of the chunk are the trace of the chunk, for a state and a buffer that no call refuses.
 pub read-then-rest : (r : Reader) (xs m : List ℕ) → Fit r m → trace action r xs m ≡ onwards xs (trace action) (readScan r xs m)

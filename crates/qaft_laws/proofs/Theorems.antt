@@ -13,7 +13,7 @@ use lib.Seq.{sets}
 use Rattle.common.proofs.Each.{Each}
 use Rattle.common.proofs.Refusals.{guarded-map}
 use Rattle.common.specs.Refusals.{guarded}
-use Rattle.framing.proofs.Bodies.{segment-written, bodies-written, reports-of-bodies, frames-written}
+use Rattle.framing.proofs.Bodies.{unskipped-none, segment-written, bodies-written, reports-of-bodies, frames-written}
 use Rattle.framing.proofs.Canonical.{NoFlag}
 use Rattle.framing.proofs.Skipped.{reportsOf-skipping}
 use Rattle.framing.proofs.Stored.{scan-stored}
@@ -181,7 +181,7 @@ module _ (level : ℕ) where
       ∙ reports-escaped (rules level) (writing level) (undoes level) (sealed d) (ok .0)
       ∙ ap (λ (r : Reported Report). r ∷ []) (ok .1)
 
-  -- so s is the body with flow control put in; at level 0 it is the body itself
+  -- so s is the body with flow control put in
   pub frame-strewn : (s : List ℕ) → NoFlag (rules level) s → Octets s → (d : List ℕ) → reportsOfSegment (rules level) s ≡ framed d ∷ [] → Strewn (isFlowControl level) (body level d) s
   frame-strewn s f h d e = subst (λ (b : List ℕ). Strewn (isFlowControl level) b s) (frame-is-its-body s f h d e) (unskipped-strewn (rules level) s)
 
@@ -205,11 +205,7 @@ module _ (level : ℕ) where
   read-frames-are-written k m room l h xss e ds q =
       frames-written (rules level) (writing level) (canonical level) sealed framed (faithful level) l h ds (sym (reads-what-the-line-reports level k m room l xss e) ∙ q)
 
--- at level 0 nothing is skipped
-unskipped-level-0 : (s : List ℕ) → unskipped (rules 0) s ≡ s
-unfolding unskipped isFlowControl
-unskipped-level-0 [] = refl
-unskipped-level-0 (x ∷ s) = ap (λ (s : List ℕ). x ∷ s) (unskipped-level-0 s)
-
+-- at level 0 it is the body itself
 pub frame-is-its-body-at-0 : (s : List ℕ) → NoFlag (rules 0) s → Octets s → (d : List ℕ) → reportsOfSegment (rules 0) s ≡ framed d ∷ [] → s ≡ body 0 d
-frame-is-its-body-at-0 s f h d e = sym (unskipped-level-0 s) ∙ frame-is-its-body 0 s f h d e
+unfolding isFlowControl
+frame-is-its-body-at-0 s f h d e = sym (unskipped-none (rules 0) (λ x. refl) s) ∙ frame-is-its-body 0 s f h d e
