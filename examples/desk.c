@@ -75,8 +75,8 @@ static void check_cases(void)
 
 static void print_answer(hasfandur_qaft_answer a, const uint8_t *buffer)
 {
-    printf("  %u, took %zu, state %d %d %zu %02X", (unsigned)a.number, a.taken, a.reader.synced, a.reader.pending,
-           a.reader.count, a.reader.sum);
+    printf("  %u, took %zu, state %d %d %zu %02X %d", (unsigned)a.number, a.taken, a.reader.synced, a.reader.pending,
+           a.reader.count, a.reader.sum, a.reader.bad_pair);
     if (a.number == HASFANDUR_QAFT_FRAME) {
         printf(", data");
         print_octets(buffer, a.length);
@@ -99,7 +99,7 @@ static void read_case(const char *name, uint8_t level, const uint8_t *line, size
             state = a.reader;
             at += a.taken;
             print_answer(a, buffer);
-        } while (HASFANDUR_QAFT_FRAME <= a.number && a.number <= HASFANDUR_QAFT_BAD_CHECK);
+        } while (hasfandur_is_report(a.number));
     }
 }
 
@@ -110,19 +110,28 @@ static void read_cases(void)
     static const uint8_t pair[] = {0x7E, 0x7D, 0x5E, 0x82, 0x7E, 0x41, 0xBE, 0x7E};
     /* 13 and 11 behind a flag, between 7D and its partner, and alone between two flags */
     static const uint8_t strewn[] = {0x7E, 0x13, 0x7D, 0x11, 0x31, 0xEF, 0x7E, 0x11, 0x7E};
+    /* 7D 41 for 61, cut behind 7D, as a splitter box made it; 7D 31, which is good at level 1 alone; 7D 41 and a 7D left over */
+    static const uint8_t odd[] = {0x7E, 0x7D, 0x41, 0x9F, 0x7E, 0x7D, 0x31, 0xEF, 0x7E, 0x7D, 0x41, 0x7D, 0x7E};
     static uint8_t buffer[HASFANDUR_QAFT_MAX_SEGMENT];
     read_case("read the paper's line", 0, line, 8, sizeof line);
     read_case("read 7D 5E 82, cut behind 7D", 1, pair, 2, sizeof pair);
     read_case("read 11 at level 1, flow control put in", 1, strewn, 4, sizeof strewn);
     read_case("the same octets at level 0", 0, strewn, 4, sizeof strewn);
+    read_case("read odd pairs at level 0", 0, odd, 2, sizeof odd);
+    read_case("the same octets at level 1", 1, odd, 3, sizeof odd);
 
     /* refusals 6, 4, 5, in this order */
     printf("read refused\n");
-    hasfandur_qaft_reader bad = {2, 0, 1, 3, 7};
+    hasfandur_qaft_reader bad = {2, 0, 1, 3, 7, 0};
     print_answer(hasfandur_qaft_read(bad, line, sizeof line, buffer, 2560), buffer);
     bad.level = 1;
     print_answer(hasfandur_qaft_read(bad, line, sizeof line, buffer, 2560), buffer);
     print_answer(hasfandur_qaft_read(bad, line, sizeof line, buffer, sizeof buffer), buffer);
+    /* a bad pair of no octets, behind a flag and before any; any number but 0 says that one came */
+    hasfandur_qaft_reader marked = {1, 1, 0, 0, 0, 2};
+    print_answer(hasfandur_qaft_read(marked, line, sizeof line, buffer, sizeof buffer), buffer);
+    marked.synced = 0;
+    print_answer(hasfandur_qaft_read(marked, line, sizeof line, buffer, sizeof buffer), buffer);
 }
 
 static void sum_cases(void)
@@ -216,7 +225,7 @@ static void number_cases(void)
 {
     static const uint8_t line[] = {0x5E, 0x82, 0x7E};
     static uint8_t buffer[HASFANDUR_QAFT_MAX_SEGMENT];
-    const hasfandur_qaft_reader waiting = {0, 3, 128, 0, 0}, nowhere = {0, 0, 255, 0, 0};
+    const hasfandur_qaft_reader waiting = {0, 3, 128, 0, 0, 0}, nowhere = {0, 0, 255, 0, 0, 0};
     printf("state 3 128, then 0 255\n");
     print_answer(hasfandur_qaft_read(waiting, line, sizeof line, buffer, sizeof buffer), buffer);
     print_answer(hasfandur_qaft_read(nowhere, line, sizeof line, buffer, sizeof buffer), buffer);

@@ -66,7 +66,7 @@ static void receive(hasfandur_qaft_reader *reader, const uint8_t *line, size_t l
         if (a.number == HASFANDUR_QAFT_FRAME) {
             counts[was_sent(frames, buffer, a.length)]++;
         }
-    } while (HASFANDUR_QAFT_FRAME <= a.number && a.number < HASFANDUR_QAFT_USED_UP);
+    } while (hasfandur_is_report(a.number));
 }
 
 static void run(const char *name, bool shared, bool flags_only)

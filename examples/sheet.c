@@ -15,6 +15,9 @@ static const uint8_t packets[] = {0x7E, 0x40, 0xC0, 0x7E, 0x51, 0xAF, 0x7E, 0x40
 static const uint8_t flow_control[] = {0x11, 0x41, 0x7E, 0x13, 0x40, 0x7D, 0x11, 0x33, 0xAD,
                                        0x7E, 0x11, 0x13, 0x7E, 0x7D, 0x13, 0x7E, 0x05, 0x13};
 
+/* DATA 0; DATA 0 with 61 written as 7D 41, which is a bad pair and no DATA; DATA 0 again, a repeat of the first */
+static const uint8_t odd_pair[] = {0x7E, 0x40, 0xC0, 0x7E, 0x40, 0x7D, 0x41, 0x5F, 0x7E, 0x40, 0xC0, 0x7E};
+
 static void count_case(const char *name, uint8_t level, const uint8_t *capture, size_t length)
 {
     hasfandur_counts c = hasfandur_sheet_count(level, capture, length);
@@ -33,6 +36,7 @@ static void count_cases(void)
     count_case("packets", 1, packets, sizeof packets);
     count_case("flow control", 1, flow_control, sizeof flow_control);
     count_case("the same at level 0", 0, flow_control, sizeof flow_control);
+    count_case("an odd pair", 0, odd_pair, sizeof odd_pair);
     count_case("no flag", 0, paper + 2, 3);
     count_case("nothing", 0, NULL, 0);
     count_case("level 2", 2, paper, sizeof paper);
@@ -68,6 +72,7 @@ static void tally_cases(void)
     tally_case("line 1 again", 0, packets, sizeof packets, 1, table, 3);
     tally_case("line 63", 0, packets, sizeof packets, 63, table, all);
     tally_case("line 63 again", 1, flow_control, sizeof flow_control, 63, table, all);
+    tally_case("line 63 once more", 0, odd_pair, sizeof odd_pair, 63, table, all);
 
     /* no such record; a record that is past the lines */
     tally_case("line 3 of 3", 0, paper, sizeof paper, 3, table, 3);

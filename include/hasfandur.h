@@ -487,6 +487,29 @@ uint8_t hasfandur_sheet_tally(uint8_t level, const uint8_t *capture, size_t capt
  */
 size_t hasfandur_sheet_line(size_t line, hasfandur_tally tally, uint8_t *out, size_t out_length);
 
+/* Whether a number given back is a reader's report on a segment, of QAFT or of KISS: no refusal, and no chunk used up. A loop over a
+ * chunk goes on while it is. */
+/* begin reports: written by include/numbers */
+static inline bool hasfandur_is_report(uint8_t number)
+{
+    switch (number) {
+    case HASFANDUR_QAFT_FRAME:
+    case HASFANDUR_QAFT_ABORTED:
+    case HASFANDUR_QAFT_LONG:
+    case HASFANDUR_QAFT_SHORT:
+    case HASFANDUR_QAFT_BAD_CHECK:
+    case HASFANDUR_QAFT_BAD_PAIR:
+    case HASFANDUR_KISS_BAD_ESCAPE:
+    case HASFANDUR_KISS_SHORT:
+    case HASFANDUR_KISS_LONG:
+    case HASFANDUR_KISS_SKIPPED:
+        return true;
+    default:
+        return false;
+    }
+}
+/* end reports */
+
 /* The name of a number given back, for logs: what stands behind HASFANDUR_. */
 /* begin names: written by include/numbers */
 static inline const char *hasfandur_number_name(uint8_t number)

@@ -3,14 +3,9 @@
 
 enum { FLAG = 0x7E, ESCAPE = 0x7D, MASK = 0x20, LONGEST = 2561 };
 
-static bool escaped(uint8_t level, uint8_t x)
-{
-    return x == FLAG || x == ESCAPE || plain_flow_control(level, x);
-}
-
 static uint8_t *put(uint8_t level, uint8_t x, uint8_t *to)
 {
-    if (escaped(level, x)) {
+    if (plain_escaped(level, x)) {
         *to++ = ESCAPE;
         x ^= MASK;
     }
@@ -42,6 +37,8 @@ static uint8_t judge(const struct plain_reader *r)
         return 11;
     if (r->count == 0)
         return 0;
+    if (r->bad_pair)
+        return 16;
     if (r->count > LONGEST)
         return 12;
     if (r->count == 1)
@@ -64,6 +61,7 @@ struct plain_answer plain_qaft_read(struct plain_reader r, const uint8_t *chunk,
             if (r.pending) {
                 x ^= MASK;
                 r.pending = false;
+                r.bad_pair |= !plain_escaped(r.level, x);
             } else if (x == ESCAPE) {
                 r.pending = true;
                 continue;

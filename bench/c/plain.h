@@ -10,12 +10,16 @@
 /* An octet that is escaped at level 1 and, where it stands raw on such a line, skipped. */
 static inline bool plain_flow_control(uint8_t level, uint8_t x) { return level == 1 && (x == 0x11 || x == 0x13); }
 
+/* An octet that a level escapes; a pair that stands for no such octet is bad. */
+static inline bool plain_escaped(uint8_t level, uint8_t x) { return x == 0x7E || x == 0x7D || plain_flow_control(level, x); }
+
 struct plain_reader {
     uint8_t level;
     bool flag;
     bool pending;
     size_t count;
     uint8_t sum;
+    bool bad_pair;
 };
 
 struct plain_answer {

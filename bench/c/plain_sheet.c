@@ -10,6 +10,7 @@ struct segment {
     size_t skipped;
     size_t count;
     bool pending;
+    bool bad_pair;
     uint8_t sum;
 };
 
@@ -18,6 +19,8 @@ static int judge(const struct segment *s)
 {
     if (s->pending)
         return HASFANDUR_SHEET_ABORTED;
+    if (s->bad_pair)
+        return HASFANDUR_SHEET_BAD_PAIRS;
     if (s->count > LONGEST)
         return HASFANDUR_SHEET_LONG;
     if (s->count == 1)
@@ -75,6 +78,7 @@ hasfandur_counts plain_sheet_count(uint8_t level, const uint8_t *capture, size_t
         if (s.pending) {
             x ^= MASK;
             s.pending = false;
+            s.bad_pair |= !plain_escaped(level, x);
         } else if (x == ESCAPE) {
             s.pending = true;
             continue;
