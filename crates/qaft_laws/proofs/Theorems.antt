@@ -166,8 +166,8 @@ flow-control-anywhere = strewn-between (isFlowControl 1)
 pub flow-control-taken-out : (l : List ℕ) → Strewn (isFlowControl 1) (unskipped (rules 1) l) l
 flow-control-taken-out = unskipped-strewn (rules 1)
 
--- 8. Demand 2's sentence of 2026-04, "a body that reads as a frame is exactly the body our writer makes for it, raw flow control at level 1 set aside".
--- s is what stands between two flags: it reads as the frame of d exactly where, without flow control, it is the body of d.
+-- 8. The claim of 2026-04, "a body that reads as a frame is exactly the body our writer makes for it, raw flow control at level 1 set aside". s is what
+-- stands between two flags: it reads as the frame of d exactly where, without flow control, it is the body of d.
 module _ (level : ℕ) where
   pub frame-is-its-body : (s : List ℕ) → NoFlag (rules level) s → Octets s → (d : List ℕ) → reportsOfSegment (rules level) s ≡ framed d ∷ [] → unskipped (rules level) s ≡ body level d
   unfolding body
