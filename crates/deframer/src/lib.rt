@@ -1,20 +1,21 @@
 // The loop over a chunk that the readers of all flagged, escaped lines share, up to the flag that closes a segment. A reader
 // hands over its rule, and judges the state that the flag found. What a rule says: specs/Rule; a call: specs/Scan; the laws of
 // it: the crate framing. Runs of octets that stand for themselves: run.rt; the running check: check.rt; what stands
-// behind an escape: pair.rt; octets where many are escaped: pairs.rt.
+// behind an escape: pair.rt; octets where many are escaped: pairs.rt; states with a field set: states.rt.
 ghost use mathlib.Core.Path.{_≡_};
-ghost use mathlib.Core.Bool.{_||_};
+ghost use mathlib.Core.Bool.{not, _||_};
 ghost use Prim.Native.Nat.{_≤_};
 ghost use lib.ListN.{length};
-ghost use Rattle.framing.specs.Step.{next};
+ghost use Rattle.framing.specs.Step.{next, malformed};
 ghost use Rattle.deframer.specs.Rule.{isSkipped, partnerOf, isBadPair, rulesOf};
-ghost use Rattle.deframer.specs.Scan.{opened, awaiting, inSync, joined, stored, inSegment, closed, step, scanned, scanCall};
+ghost use Rattle.deframer.specs.Scan.{view, opened, joined, stored, inSegment, closed, step, scanned, scanCall};
 use escapes::Escapes;
 
 mod check;
 mod pair;
 mod pairs;
 mod run;
+mod states;
 
 // The running checks (specs/Rule): the sum modulo 256, the register of ISO 3309; any other number keeps the first octet.
 pub const SUM: u8 = 0;
@@ -95,18 +96,18 @@ impl Rule {
                 match action {
                     Action::Advance(next) => {
                         let t = pairs::take(self, next, &chunk[i..], buffer);
-                        s = by_fields(t.state);
+                        s = states::by_fields(t.state);
                         i += t.taken;
                     }
                     Action::Store(next, at, octet) => {
                         buffer[at] = octet;
-                        s = by_fields(next);
+                        s = states::by_fields(next);
                     }
                     Action::Close => {
                         return Scanned {
                             closed: true,
                             taken: i,
-                            state: in_sync(s),
+                            state: states::in_sync(s),
                         };
                     }
                 }
@@ -156,7 +157,7 @@ impl Rule {
             return self.stored(s, self.bad_after(s.bad, x), self.partner(x));
         }
         if x == self.escapes.escape {
-            return Action::Advance(awaiting(s));
+            return Action::Advance(states::awaiting(s));
         }
         self.stored(s, s.bad, x)
     }
@@ -210,6 +211,33 @@ impl Rule {
         }
     }
 
+    // Whether some line leads to a state: no more than one octet past the cap; of no octets no check and no bad pair; before any flag
+    // no segment.
+    pub fn well_formed(self, s: State) -> bool
+        ensures { λ r. ⌜ r ≡ not (malformed (rulesOf self) (view s)) ⌝ }
+    {
+        let n = s.count;
+        if self.cap as usize + 1 < n {
+            return false;
+        }
+        if n == 0 {
+            if s.bad {
+                return false;
+            }
+            if s.check != check::blank(self.check) {
+                return false;
+            }
+            if s.synced {
+                return true;
+            }
+            if s.pending {
+                return false;
+            }
+            return true;
+        }
+        s.synced
+    }
+
     // Raw octets that are escaped are skipped, but for the flag and the escape.
     fn skips(self, x: u8) -> bool
         ensures { λ r. ⌜ r ≡ isSkipped self x ⌝ }
@@ -254,44 +282,5 @@ impl Rule {
             return true;
         }
         false
-    }
-}
-
-// The same state, field by field: of a copy at once the compiler moves what lies between the fields too, through memory.
-fn by_fields(s: State) -> State
-    ensures { λ r. ⌜ r ≡ s ⌝ }
-{
-    State {
-        synced: s.synced,
-        pending: s.pending,
-        bad: s.bad,
-        count: s.count,
-        check: s.check,
-    }
-}
-
-// The state behind an escape, whose partner did not come yet.
-fn awaiting(s: State) -> State
-    ensures { λ r. ⌜ r ≡ awaiting s ⌝ }
-{
-    State {
-        synced: s.synced,
-        pending: true,
-        bad: s.bad,
-        count: s.count,
-        check: s.check,
-    }
-}
-
-// A state that a flag found, behind which a flag has come.
-fn in_sync(s: State) -> State
-    ensures { λ r. ⌜ r ≡ inSync s ⌝ }
-{
-    State {
-        synced: true,
-        pending: s.pending,
-        bad: s.bad,
-        count: s.count,
-        check: s.check,
     }
 }

@@ -1,20 +1,20 @@
 -- The reader as framing sees it: what no call refuses stays so, its calls are scans, and every other state and buffer is refused. Assumes nothing.
 use Prim.Native.Nat.{ℕ}
-use mathlib.Core.Bool.{Bool, true, false, not, _&&_, _||_}
+use mathlib.Core.Bool.{Bool, true, false}
 use mathlib.Core.List.{List}
 use mathlib.Core.Logic.{_⊎_, inl, inr}
 use mathlib.Core.Option.{Option, none, some}
 use mathlib.Core.Path.{_≡_, refl, sym, ap, _∙_}
 use borrow.Author.Tests.{ltb-true, ltb-false}
-use lib.Dec.{ltb, eqb}
+use lib.Dec.{ltb}
 use lib.ListN.{length}
 use Rattle.framing.proofs.Formed.{step-keeps}
 use Rattle.framing.proofs.Formed as framing
 use Rattle.framing.specs.Rules.{State}
 use Rattle.framing.specs.Step.{step}
-use Rattle.framing.specs.Step as steps
-use Rattle.kiss.specs.Limits.{maxSegment, countCap}
+use Rattle.kiss.specs.Limits.{maxSegment}
 use Rattle.kiss_laws.proofs.Rules.{lawful}
+use Rattle.kiss_read.proofs.Formed.{malformed-view}
 use Rattle.kiss_read.proofs.Refusals.{Fit, read-bufferTooSmall, read-badState, read-scan}
 use Rattle.kiss_read.proofs.Scanning.{commutes}
 use Rattle.kiss_read.specs.Read.{Call, outcomeOf, callOf, scanCall, refusal, reportOf, readScan}
@@ -27,18 +27,6 @@ use Rattle.line.proofs.Chunks.{Keeps}
 use Rattle.line.proofs.Simulation.{octet-keeps}
 use Rattle.line.specs.Scan.{Scan, scan}
 use Rattle.qaft.specs.Answers.{bufferTooSmall, badState}
-
--- ---- refusal 5 is framing's: a type or a bad escape before a flag is one of no octet, or has an octet before a flag
-pub malformed-view : (r : Reader) → malformed r ≡ steps.malformed rules (view r)
-unfolding malformed steps.malformed
-malformed-view r = go (ltb countCap (r .count)) (eqb (r .count) 0) (r .«bad_escape» || not (eqb (r .«type_octet») 0)) (r .pending)
-  where
-    go : (o z t p : Bool) → (o || ((z && t) || (not (r .synced) && (p || (not z || t))))) ≡ (o || ((z && t) || (not (r .synced) && (p || not z))))
-    go true z t p = refl
-    go false true true p = refl
-    go false true false p = refl
-    go false false t true = refl
-    go false false t false = refl
 
 -- ---- what no call refuses, and framing's word for it
 pub fit-view : (r : Reader) (m : List ℕ) → Fit r m → framing.Fit rules (view r) m

@@ -25,8 +25,9 @@ use Rattle.kiss.specs.Frame.{typed, bodyOf, body, line}
 use Rattle.kiss.specs.Limits.{maxSegment}
 use Rattle.kiss.specs.Octets.{writing}
 use Rattle.kiss_laws.proofs.Faithful.{canonical, faithful}
-use Rattle.kiss_laws.proofs.Reader.{malformed-view, fit-view, action-keeps, readScan-scan, calls, fit-or-refused}
+use Rattle.kiss_laws.proofs.Reader.{fit-view, action-keeps, readScan-scan, calls, fit-or-refused}
 use Rattle.kiss_laws.proofs.Rules.{lawful, undoes, all-accepted}
+use Rattle.kiss_read.proofs.Formed.{malformed-view}
 use Rattle.kiss_read.proofs.Refusals.{Fit, read-ind}
 use Rattle.kiss_read.proofs.Scanning.{commutes}
 use Rattle.kiss_read.specs.Read.{Call, callOf, scanCall, refusal, refusals, read, readScan}

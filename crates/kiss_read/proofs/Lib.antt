@@ -1,3 +1,4 @@
+pub mod Formed
 pub mod SharedRule
 pub mod Scanning
 pub mod Refusals

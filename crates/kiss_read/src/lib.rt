@@ -80,26 +80,7 @@ impl Reader {
     fn well_formed(self) -> bool
         ensures { λ r. ⌜ r ≡ not (malformed self) ⌝ }
     {
-        let n = self.count;
-        if kiss::MAX_SEGMENT + 1 < n {
-            return false;
-        }
-        if n == 0 {
-            if self.bad_escape {
-                return false;
-            }
-            if self.type_octet != 0 {
-                return false;
-            }
-            if self.synced {
-                return true;
-            }
-            if self.pending {
-                return false;
-            }
-            return true;
-        }
-        self.synced
+        rule().well_formed(self.state())
     }
 
     // The chunk's octets up to the first report.

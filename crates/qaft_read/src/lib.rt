@@ -85,26 +85,7 @@ impl Reader {
     fn well_formed(self) -> bool
         ensures { λ r. ⌜ r ≡ not (malformed self) ⌝ }
     {
-        let n = self.count;
-        if qaft::MAX_SEGMENT + 1 < n {
-            return false;
-        }
-        if n == 0 {
-            if self.bad_pair {
-                return false;
-            }
-            if self.sum != 0 {
-                return false;
-            }
-            if self.synced {
-                return true;
-            }
-            if self.pending {
-                return false;
-            }
-            return true;
-        }
-        self.synced
+        rule(self.level).well_formed(self.state())
     }
 
     // The chunk's octets up to the first report.

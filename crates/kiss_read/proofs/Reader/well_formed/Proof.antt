@@ -1,52 +1,36 @@
--- `kiss_read::Reader::well_formed` meets its contract: each return by the tests on its way. Assumes nothing.
-use mathlib.Core.Bool.{Bool, true, false, not, _&&_, _||_}
-use mathlib.Core.Path.{_≡_, refl}
-use borrow.Author.Needs.{needs}
-use borrow.Author.Tests.{lt-ltb, le-ltb, eq-eqb, ne-eqb}
+-- `kiss_read::Reader::well_formed` meets its contract: what the shared rule calls ill formed is 5. Assumes nothing.
+use mathlib.Core.Bool.{Bool, not}
+use mathlib.Core.Path.{_≡_, sym, ap, ap₂, _∙_}
+use Rattle.deframer.specs.Rule.{rulesOf}
+use Rattle.deframer.specs.Scan.{view}
+use Rattle.deframer.specs.declared.Rule.{Rule}
+use Rattle.deframer.specs.declared.State.{State}
+use Rattle.framing.specs.Step as framing
+use Rattle.kiss_read.proofs.Formed.{malformed-view}
 use Rattle.kiss_read.proofs.Reader.well_formed.Statement.{statement}
 use Rattle.kiss_read.proofs.Reader.well_formed.Tie as tie
+use Rattle.kiss_read.specs.Scanned.{rule, stateOf}
 use Rattle.kiss_read.specs.State.{malformed}
+use Rattle.kiss_read.specs.declared.Reader.{Reader}
 
-add-if1 : tie.Need-add-if1
-add-if1 c = search needs
+by-rule : (r : Reader) → framing.malformed (rulesOf rule) (view (stateOf r)) ≡ malformed r
+unfolding framing.malformed malformed
+by-rule r = sym (malformed-view r)
 
--- with octets in the segment a flag must have come, whatever is pending
-synced-alone : (s p : Bool) → s ≡ not (not s && (p || true))
-synced-alone true p = refl
-synced-alone false true = refl
-synced-alone false false = refl
+rule-requires : tie.Need-rule-requires
+rule-requires c κs = tt
+
+state-requires : tie.Need-state-requires
+state-requires c κs = tt
+
+well-formed-requires : tie.Need-well-formed-requires
+well-formed-requires c κs = tt
 
 returns : tie.Need-returns
-unfolding malformed
-returns c = simp (lt-ltb _ _ (c .if1 .taken))
-
-returns-2 : tie.Need-returns-2
-unfolding malformed
-returns-2 c = simp (le-ltb _ _ (c .before .before .if1 .left), eq-eqb _ _ (c .before .if2 .taken), c .if3 .taken)
-
-returns-3 : tie.Need-returns-3
-unfolding malformed
-returns-3 c = simp (le-ltb _ _ (c .before .before .before .before .if1 .left), eq-eqb _ _ (c .before .before .before .if2 .taken), c .before .before .if3 .left, ne-eqb _ _ (c .if4 .taken))
-
-returns-4 : tie.Need-returns-4
-unfolding malformed
-returns-4 c =
-    simp (le-ltb _ _ (c .before .before .before .before .before .if1 .left), eq-eqb _ _ (c .before .before .before .before .if2 .taken), c .before .before .before .if3 .left, eq-eqb _ _ (c .before .if4 .left), c .if5 .taken)
-
-returns-5 : tie.Need-returns-5
-unfolding malformed
-returns-5 c =
-    simp (le-ltb _ _ (c .before .before .before .before .before .before .if1 .left), eq-eqb _ _ (c .before .before .before .before .before .if2 .taken), c .before .before .before .before .if3 .left, eq-eqb _ _ (c .before .before .if4 .left), c .before .if5 .left, c .if6 .taken)
-
-returns-6 : tie.Need-returns-6
-unfolding malformed
-returns-6 c =
-    simp (le-ltb _ _ (c .before .before .before .before .before .before .if1 .left), eq-eqb _ _ (c .before .before .before .before .before .if2 .taken), c .before .before .before .before .if3 .left, eq-eqb _ _ (c .before .before .if4 .left), c .before .if5 .left, c .if6 .left)
-
-returns-7 : tie.Need-returns-7
-unfolding malformed
-returns-7 c = simp (le-ltb _ _ (c .before .if1 .left), ne-eqb _ _ (c .if2 .left)) (synced-alone (c .before .before .args .self .synced) (c .before .before .args .self .pending))
+returns c =
+    c .well-formed .ensures
+    ∙ ap₂ (λ (l : Rule) (s : State). not (framing.malformed (rulesOf l) (view s))) (c .before .before .rule .ensures) (c .before .state .ensures)
+    ∙ ap not (by-rule (c .before .before .before .args .self))
 
 pub well-formed-spec : {M : Type 1} → statement M
-well-formed-spec =
-    tie.close (tie.spec add-if1 returns returns-2 returns-3 returns-4 returns-5 returns-6 returns-7)
+well-formed-spec = tie.close (tie.spec rule-requires state-requires well-formed-requires returns)

@@ -1,7 +1,7 @@
--- `deframer::awaiting` meets its contract. Assumes nothing.
+-- `deframer::states::awaiting` meets its contract. Assumes nothing.
 use mathlib.Core.Path.{refl}
-use Rattle.deframer.proofs.awaiting.Statement.{statement}
-use Rattle.deframer.proofs.awaiting.Tie as tie
+use Rattle.deframer.proofs.states.awaiting.Statement.{statement}
+use Rattle.deframer.proofs.states.awaiting.Tie as tie
 use Rattle.deframer.specs.Scan.{awaiting}
 
 returns : tie.Need-returns
