@@ -14,6 +14,7 @@ struct RawReader {
     pending: bool,
     count: usize,
     sum: u8,
+    bad_pair: bool,
 }
 
 #[repr(C)]
@@ -112,6 +113,7 @@ pub fn qaft_read(from: State, chunk: &[u8], store: &mut [u8]) -> (State, Answer)
         pending: from.pending,
         count: from.count,
         sum: from.sum,
+        bad_pair: from.bad_pair,
     };
     let raw = unsafe { plain_qaft_read(reader, chunk.as_ptr(), chunk.len(), store.as_mut_ptr()) };
     let state = State {
@@ -120,6 +122,7 @@ pub fn qaft_read(from: State, chunk: &[u8], store: &mut [u8]) -> (State, Answer)
         pending: raw.reader.pending,
         count: raw.reader.count,
         sum: raw.reader.sum,
+        bad_pair: raw.reader.bad_pair,
     };
     let answer = Answer {
         number: raw.number,

@@ -63,6 +63,7 @@ pub fn ours(from: State, chunk: &[u8], store: &mut [u8]) -> (State, Answer) {
         pending: next.pending != 0,
         count: next.count,
         sum: next.sum,
+        bad_pair: next.bad_pair != 0,
     };
     (state, answer)
 }
