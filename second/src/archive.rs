@@ -1,11 +1,11 @@
 //! The functions of include/hasfandur.h, with safe wrappers. The only unsafe code of this program: each call passes
 //! pointers and lengths of slices, which are what the header asks for (a slice's pointer is never null, and a `&mut` slice
 //! overlaps nothing else).
+pub mod kiss;
 pub mod link;
 pub mod sheet;
 
 use second::afp::{Part, Reading};
-use second::kiss::{self, Converted};
 use second::reader::{Answer, State};
 use second::Written;
 
@@ -34,7 +34,7 @@ struct RawReading {
     unchecked: u8,
 }
 
-/// The reader's state as C has it: any number but 0 in `synced` and `pending` stands for true.
+/// The reader's state as C has it: any number but 0 in `synced`, `pending` and `bad_pair` stands for true.
 #[repr(C)]
 #[derive(Debug, Clone, Copy, PartialEq, Eq)]
 pub struct RawReader {
@@ -43,6 +43,7 @@ pub struct RawReader {
     pub pending: u8,
     pub count: usize,
     pub sum: u8,
+    pub bad_pair: u8,
 }
 
 impl From<State> for RawReader {
@@ -53,6 +54,7 @@ impl From<State> for RawReader {
             pending: state.pending.into(),
             count: state.count,
             sum: state.sum,
+            bad_pair: state.bad_pair.into(),
         }
     }
 }
@@ -63,46 +65,6 @@ struct RawAnswer {
     taken: usize,
     length: usize,
     reader: RawReader,
-}
-
-/// The KISS reader's state as C has it: any number but 0 in `synced`, `pending` and `bad_escape` stands for true.
-#[repr(C)]
-#[derive(Debug, Clone, Copy, PartialEq, Eq)]
-pub struct RawKissReader {
-    pub synced: u8,
-    pub pending: u8,
-    pub count: usize,
-    pub type_octet: u8,
-    pub bad_escape: u8,
-}
-
-impl From<kiss::reader::State> for RawKissReader {
-    fn from(state: kiss::reader::State) -> Self {
-        RawKissReader {
-            synced: state.flag.into(),
-            pending: state.pending.into(),
-            count: state.count,
-            type_octet: state.kind,
-            bad_escape: state.bad.into(),
-        }
-    }
-}
-
-#[repr(C)]
-struct RawKissAnswer {
-    number: u8,
-    taken: usize,
-    length: usize,
-    reader: RawKissReader,
-}
-
-#[repr(C)]
-struct RawConversion {
-    number: u8,
-    length: usize,
-    frames: u64,
-    skipped: u64,
-    others: u64,
 }
 
 #[link(name = "hasfandur", kind = "static")]
@@ -124,35 +86,6 @@ extern "C" {
         buffer: *mut u8,
         buffer_length: usize,
     ) -> RawAnswer;
-    fn hasfandur_kiss_write(
-        at_flag: bool,
-        payload: *const u8,
-        payload_length: usize,
-        out: *mut u8,
-        out_length: usize,
-    ) -> RawWritten;
-    fn hasfandur_kiss_fresh() -> RawKissReader;
-    fn hasfandur_kiss_read(
-        state: RawKissReader,
-        chunk: *const u8,
-        chunk_length: usize,
-        buffer: *mut u8,
-        buffer_length: usize,
-    ) -> RawKissAnswer;
-    fn hasfandur_qaft_to_kiss(
-        level: u8,
-        capture: *const u8,
-        capture_length: usize,
-        out: *mut u8,
-        out_length: usize,
-    ) -> RawConversion;
-    fn hasfandur_kiss_to_qaft(
-        level: u8,
-        capture: *const u8,
-        capture_length: usize,
-        out: *mut u8,
-        out_length: usize,
-    ) -> RawConversion;
     fn hasfandur_afp_sum(octets: *const u8, length: usize) -> u8;
     fn hasfandur_afp_next_station_sum(field: *const u8, length: usize) -> u8;
     fn hasfandur_afp_header_sum(octets: *const u8, length: usize) -> u8;
@@ -208,54 +141,6 @@ pub fn qaft_read(reader: RawReader, portion: &[u8], store: &mut [u8]) -> (RawRea
         length: raw.length,
     };
     (raw.reader, answer)
-}
-
-pub fn kiss_write(at_flag: bool, payload: &[u8], out: &mut [u8]) -> Written {
-    let (place, room) = (out.as_mut_ptr(), out.len());
-    written(unsafe { hasfandur_kiss_write(at_flag, payload.as_ptr(), payload.len(), place, room) })
-}
-
-pub fn kiss_fresh() -> RawKissReader {
-    unsafe { hasfandur_kiss_fresh() }
-}
-
-pub fn kiss_read(
-    state: RawKissReader,
-    portion: &[u8],
-    store: &mut [u8],
-) -> (RawKissReader, Answer) {
-    let (place, room) = (store.as_mut_ptr(), store.len());
-    let raw = unsafe { hasfandur_kiss_read(state, portion.as_ptr(), portion.len(), place, room) };
-    let answer = Answer {
-        number: raw.number,
-        taken: raw.taken,
-        length: raw.length,
-    };
-    (raw.reader, answer)
-}
-
-fn converted(raw: RawConversion) -> Converted {
-    Converted {
-        number: raw.number,
-        length: raw.length,
-        frames: raw.frames as usize,
-        skipped: raw.skipped as usize,
-        others: raw.others as usize,
-    }
-}
-
-pub fn qaft_to_kiss(level: u8, capture: &[u8], out: &mut [u8]) -> Converted {
-    let (place, room) = (out.as_mut_ptr(), out.len());
-    converted(unsafe {
-        hasfandur_qaft_to_kiss(level, capture.as_ptr(), capture.len(), place, room)
-    })
-}
-
-pub fn kiss_to_qaft(level: u8, capture: &[u8], out: &mut [u8]) -> Converted {
-    let (place, room) = (out.as_mut_ptr(), out.len());
-    converted(unsafe {
-        hasfandur_kiss_to_qaft(level, capture.as_ptr(), capture.len(), place, room)
-    })
 }
 
 pub fn afp_sum(octets: &[u8]) -> u8 {

@@ -8,6 +8,7 @@ mod kiss;
 mod link;
 mod listing;
 mod make;
+mod pairs;
 mod process;
 mod programs;
 mod qaft_write;
@@ -57,6 +58,9 @@ const LAYERS: &[(&str, Layer, &[u8])] = &[
     ("line sheet, printed lines", sheet::lines, &[]),
     ("line sheet, program", sheet::program, &sheet::RUN_NUMBERS),
 ];
+
+/// From this many inputs on, the inputs that take long are compared too: the full count.
+const FULL: u64 = 1_000_000;
 
 /// Writes the stored table of the archive's answers anew.
 pub fn bless() {

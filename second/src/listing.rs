@@ -17,6 +17,7 @@ fn qaft_details(report: &qaft::Report) -> String {
         qaft::Report::Long => "long".into(),
         qaft::Report::Short => "short".into(),
         qaft::Report::Bad => "bad".into(),
+        qaft::Report::Pair => "pair".into(),
     }
 }
 

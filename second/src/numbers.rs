@@ -39,12 +39,8 @@ fn qaft_numbers() -> Vec<(&'static str, usize)> {
         reader::read(state, portion, &mut vec![0; room]).1.number
     };
     let line = |segment: &[u8]| {
-        let flag = &[qaft::FLAG][..];
-        read(
-            State::fresh(0),
-            &[flag, segment, flag].concat(),
-            reader::STORE,
-        )
+        let line = [&[qaft::FLAG], segment, &[qaft::FLAG]].concat();
+        read(State::fresh(0), &line, reader::STORE)
     };
     let unsynced = State {
         count: 1,
@@ -67,6 +63,7 @@ fn qaft_numbers() -> Vec<(&'static str, usize)> {
         ("QAFT_SHORT", line(&[0])),
         ("QAFT_BAD_CHECK", line(&[0x41, 0xBE])),
         ("QAFT_USED_UP", line(&[])),
+        ("QAFT_BAD_PAIR", line(&[qaft::ESCAPE, 0x41, 0x9F])),
     ]
     .map(|(name, number)| (name, number.into()))
     .to_vec()
@@ -242,7 +239,7 @@ fn sheet_places() -> Vec<(&'static str, usize)> {
         segments: 3,
         after: 4,
         skipped: 8,
-        reports: [10, 11, 12, 13, 14],
+        reports: [10, 11, 12, 13, 14, 16],
         data: 5,
         dack: 6,
         repeats: 7,
@@ -260,6 +257,7 @@ fn sheet_places() -> Vec<(&'static str, usize)> {
         ("SHEET_LONG", 12),
         ("SHEET_SHORT", 13),
         ("SHEET_BAD_CHECKS", 14),
+        ("SHEET_BAD_PAIRS", 16),
         ("SHEET_DATA", 5),
         ("SHEET_DACK", 6),
         ("SHEET_REPEATS", 7),

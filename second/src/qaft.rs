@@ -15,16 +15,25 @@ pub fn check(data: &[u8]) -> u8 {
     ((256 - sum % 256) % 256) as u8
 }
 
+/// Whether a level replaces an octet by 7D and another.
+fn escapes(level: u8, x: u8) -> bool {
+    match x {
+        FLAG | ESCAPE => true,
+        0x11 | 0x13 => level == 1,
+        _ => false,
+    }
+}
+
+/// Whether 7D and this octet are a pair that the level makes.
+pub fn is_good_pair(level: u8, partner: u8) -> bool {
+    escapes(level, partner ^ 0x20)
+}
+
 /// Data or check octets as they stand on the line at a level.
 pub fn escaped(level: u8, octets: &[u8]) -> Vec<u8> {
     let mut line = Vec::with_capacity(2 * octets.len());
     for &x in octets {
-        let special = match x {
-            FLAG | ESCAPE => true,
-            0x11 | 0x13 => level == 1,
-            _ => false,
-        };
-        if special {
+        if escapes(level, x) {
             line.extend([ESCAPE, x ^ 0x20]);
         } else {
             line.push(x);
@@ -68,6 +77,21 @@ pub enum Report {
     Long,
     Short,
     Bad,
+    Pair,
+}
+
+impl Report {
+    /// The papers' number for it.
+    pub fn number(&self) -> u8 {
+        match self {
+            Report::Frame(_) => 10,
+            Report::Aborted => 11,
+            Report::Long => 12,
+            Report::Short => 13,
+            Report::Bad => 14,
+            Report::Pair => 16,
+        }
+    }
 }
 
 /// Whether a reader skips an octet of the line, wherever it stands.
@@ -81,18 +105,21 @@ pub fn unskipped(level: u8, segment: &[u8]) -> Vec<u8> {
     kept.copied().collect()
 }
 
-/// The octets that a segment stands for, or nothing where its last 7D dangles.
-fn unescaped(segment: &[u8]) -> Option<Vec<u8>> {
+/// The octets that a segment stands for, and whether all its pairs are good; nothing where its last 7D dangles.
+fn unescaped(level: u8, segment: &[u8]) -> Option<(Vec<u8>, bool)> {
     let mut octets = Vec::with_capacity(segment.len());
+    let mut good = true;
     let mut rest = segment.iter();
     while let Some(&x) = rest.next() {
         if x == ESCAPE {
-            octets.push(rest.next()? ^ 0x20);
+            let &partner = rest.next()?;
+            good &= is_good_pair(level, partner);
+            octets.push(partner ^ 0x20);
         } else {
             octets.push(x);
         }
     }
-    Some(octets)
+    Some((octets, good))
 }
 
 /// The report on one segment, the first that applies; an empty one says nothing, nor does one of skipped octets alone. The
@@ -102,9 +129,12 @@ pub fn report(level: u8, segment: &[u8]) -> Option<Report> {
     if segment.is_empty() {
         return None;
     }
-    let Some(octets) = unescaped(&segment) else {
+    let Some((octets, good)) = unescaped(level, &segment) else {
         return Some(Report::Aborted);
     };
+    if !good {
+        return Some(Report::Pair);
+    }
     if octets.len() > MAX_DATA + 1 {
         return Some(Report::Long);
     }

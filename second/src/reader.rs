@@ -1,5 +1,5 @@
 //! The QAFT reader that takes a line portion by portion.
-use crate::qaft::{skips, ESCAPE, FLAG, MAX_DATA};
+use crate::qaft::{is_good_pair, skips, ESCAPE, FLAG, MAX_DATA};
 
 /// The store has at least this many octets: the longest data and their check octet.
 pub const STORE: usize = MAX_DATA + 1;
@@ -16,6 +16,8 @@ pub struct State {
     /// octets of this segment after undoing escapes; [`MANY`] stands for all above
     pub count: usize,
     pub sum: u8,
+    /// whether a bad pair came in this segment
+    pub bad_pair: bool,
 }
 
 #[derive(Debug, Clone, Copy, PartialEq, Eq)]
@@ -34,6 +36,7 @@ impl State {
             pending: false,
             count: 0,
             sum: 0,
+            bad_pair: false,
         }
     }
 
@@ -47,12 +50,12 @@ impl State {
 
     fn well_formed(&self) -> bool {
         self.count <= MANY
-            && (self.count != 0 || self.sum == 0)
+            && (self.count != 0 || self.sum == 0 && !self.bad_pair)
             && (self.flag || !self.pending && self.count == 0)
     }
 
-    /// Octets of the current segment, without a flag: undone, summed, and stored each at the place its count gives. One that is
-    /// skipped does none of it, and a 7D goes on waiting.
+    /// Octets of the current segment, without a flag: undone, summed, and stored each at the place its count gives, that of a bad
+    /// pair too. One that is skipped does none of it, and a 7D goes on waiting.
     fn take_in(&mut self, octets: &[u8], store: &mut [u8]) {
         for &x in octets {
             if skips(self.level, x) {
@@ -63,6 +66,7 @@ impl State {
                 continue;
             }
             let octet = if self.pending { x ^ 0x20 } else { x };
+            self.bad_pair |= self.pending && !is_good_pair(self.level, x);
             self.pending = false;
             if self.count < STORE {
                 store[self.count] = octet;
@@ -76,6 +80,7 @@ impl State {
     fn judge(&self) -> Option<u8> {
         match self {
             State { pending: true, .. } => Some(11),
+            State { bad_pair: true, .. } => Some(16),
             State { count: MANY, .. } => Some(12),
             State { count: 0, .. } => None,
             State { count: 1, .. } => Some(13),

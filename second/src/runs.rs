@@ -40,6 +40,7 @@ fn reports(rng: &Rng, level: u8, line: &[u8]) -> Vec<Report> {
             12 => reports.push(Report::Long),
             13 => reports.push(Report::Short),
             14 => reports.push(Report::Bad),
+            16 => reports.push(Report::Pair),
             number => assert_eq!((number, place), (15, end)),
         }
     }

@@ -1,5 +1,5 @@
-//! The monthly line sheet of change requests 2026-01 and 2026-02: what a capture counts, a table with one record a line, the
-//! printed lines.
+//! The monthly line sheet of change requests 2026-01, 2026-02 and 2026-04: what a capture counts, a table with one record a line,
+//! the printed lines.
 #[cfg(test)]
 mod worked;
 
@@ -9,17 +9,18 @@ use std::ops::Range;
 
 /// Lines have the numbers 0 to 63, also where the table is longer.
 pub const LINES: usize = 64;
-pub const COUNTS: usize = 13;
+pub const COUNTS: usize = 14;
 /// The room that is asked for a printed line: 20 digits for each of its numbers (its own, the counts, two of the share), and the
 /// octet behind each.
 pub const MAX_LINE: usize = (COUNTS + 3) * (20 + 1);
-/// No printed line is longer: a line number of 20 digits, counts of 10, a share of 10 and 11 (all reports are five counts), 14
+/// No printed line is longer: a line number of 20 digits, counts of 10, a share of 10 and 11 (all reports are six counts), 15
 /// spaces, the stroke, the newline.
-pub const LONGEST_LINE: usize = 20 + COUNTS * 10 + 10 + 11 + 14 + 1 + 1;
+pub const LONGEST_LINE: usize = 20 + COUNTS * 10 + 10 + 11 + 15 + 1 + 1;
 
-/// Where in a record the octet counts stand, that of skipped octets last, the reports 10 to 14, and the bad checks among them.
+/// Where in a record the octet counts stand, that of skipped octets last, the reports 10 to 14 and 16, and the bad checks among
+/// them.
 pub const OCTETS: Range<usize> = 0..5;
-pub const REPORTS: Range<usize> = 5..10;
+pub const REPORTS: Range<usize> = 5..11;
 pub const BAD_CHECKS: usize = 9;
 
 /// A line's tallies, in the order in which they are printed (see [`Counts::in_order`]).
@@ -37,8 +38,8 @@ pub struct Counts {
     pub after: u64,
     /// skipped octets between two flags, in reported segments and in empty ones
     pub skipped: u64,
-    /// reports of each kind, 10 to 14
-    pub reports: [u64; 5],
+    /// reports of each kind, 10 to 14 and 16
+    pub reports: [u64; 6],
     pub data: u64,
     pub dack: u64,
     pub repeats: u64,
@@ -47,7 +48,7 @@ pub struct Counts {
 impl Counts {
     /// The counts as the request names them, kinds by number.
     pub fn in_order(&self) -> [u64; COUNTS] {
-        let [frames, aborted, long, short, bad] = self.reports;
+        let [frames, aborted, long, short, bad, pairs] = self.reports;
         [
             self.before,
             self.flags,
@@ -59,6 +60,7 @@ impl Counts {
             long,
             short,
             bad,
+            pairs,
             self.data,
             self.dack,
             self.repeats,
@@ -110,6 +112,7 @@ pub fn counts(level: u8, capture: &[u8]) -> Counts {
             Report::Long => 2,
             Report::Short => 3,
             Report::Bad => 4,
+            Report::Pair => 5,
         };
         counts.reports[kind] += 1;
         if let Report::Frame(data) = report {

@@ -1,4 +1,6 @@
 //! The cases that the scope paper works out, and published vectors, against this program alone.
+mod pairs;
+
 use crate::afp::{self, check_sequence, is_id, is_supplementary, Part};
 use crate::listing::listing;
 use crate::qaft::{self, Report};
@@ -54,7 +56,6 @@ fn qaft_segments() {
         assert_eq!(report(&hex("10 7D")), Some(Report::Aborted));
         assert_eq!(report(&hex("7D")), Some(Report::Aborted));
         assert_eq!(report(&hex("00")), Some(Report::Short));
-        assert_eq!(report(&hex("7D 7D")), Some(Report::Short));
         assert_eq!(report(&hex("41 BE")), Some(Report::Bad));
         assert_eq!(report(&[0; 2561]), Some(Report::Frame(vec![0; 2560])));
         assert_eq!(report(&[0; 2562]), Some(Report::Long));
@@ -72,17 +73,17 @@ fn flow_control() {
     case("11", Some(Report::Short), None);
     case("13 11 13", Some(Report::Bad), None);
     case("11 EF", frame("11"), Some(Report::Short));
-    case("7D 31 EF", frame("11"), frame("11"));
+    case("7D 31 EF", Some(Report::Pair), frame("11"));
     case("13 41 BF", Some(Report::Bad), frame("41"));
     case("41 11 BF", Some(Report::Bad), frame("41"));
     case("41 BF 13", Some(Report::Bad), frame("41"));
-    // between 7D and its partner: 7D 11 is a pair at level 0
-    case("7D 11 5E 82", Some(Report::Bad), frame("7E"));
-    case("7D 13 11 33 ED", Some(Report::Bad), frame("13"));
-    case("7D 11 CF", frame("31"), Some(Report::Short));
-    case("7D 11 7D A3", Some(Report::Bad), frame("5D"));
-    case("7D 11", Some(Report::Short), Some(Report::Aborted));
-    case("11 7D 13 11", Some(Report::Bad), Some(Report::Aborted));
+    // between 7D and its partner: 7D 11 is a pair at level 0, and a bad one
+    case("7D 11 5E 82", Some(Report::Pair), frame("7E"));
+    case("7D 13 11 33 ED", Some(Report::Pair), frame("13"));
+    case("7D 11 CF", Some(Report::Pair), Some(Report::Pair));
+    case("7D 11 7D A3", Some(Report::Pair), Some(Report::Pair));
+    case("7D 11", Some(Report::Pair), Some(Report::Aborted));
+    case("11 7D 13 11", Some(Report::Pair), Some(Report::Aborted));
     case("11 05", Some(Report::Bad), Some(Report::Short));
     let full = ["00 "; 2561].concat();
     case(
@@ -109,7 +110,7 @@ fn listing_of_flow_control() {
     let capture = hex("11 AA 7E 13 7E 40 11 41 7F 7E 10 7D 13 7E 13 33 11");
     let text = "QAFT listing level 1\n1 frame 2 4041\n2 aborted\nend 2 before 2 after 3\n";
     assert_eq!(listing(1, &capture), text);
-    let text = "QAFT listing level 0\n1 short\n2 bad\n3 bad\nend 3 before 2 after 3\n";
+    let text = "QAFT listing level 0\n1 short\n2 bad\n3 pair\nend 3 before 2 after 3\n";
     assert_eq!(listing(0, &capture), text);
 }
 

@@ -1,7 +1,7 @@
 //! Captures for the programs. A capture is made of many pieces, and it is the pieces that are counted: a process for each would
 //! take most of the time.
-use super::flow;
 use super::make::each;
+use super::{flow, pairs};
 use second::rng::Rng;
 use second::{kiss, qaft};
 
@@ -14,8 +14,9 @@ pub struct Framing {
     escape: u8,
     /// Octets that are put into a damaged piece.
     damage: [u8; 4],
-    /// Octets of which every short segment is made.
+    /// Octets of which every short segment is made, and other segments that are all to be met.
     alphabet: &'static [u8],
+    others: fn() -> Vec<Vec<u8>>,
     /// What stands on the line of some octets, without the closing flag.
     body: fn(&Rng, &[u8]) -> Vec<u8>,
 }
@@ -34,7 +35,10 @@ pub const QAFT: Framing = Framing {
         0x11,
         0xEF,
         0x13,
+        0x31,
+        0x83,
     ],
+    others: || [pairs::each(), pairs::each_long(&pairs::PARTNERS)].concat(),
     body: |rng, octets| qaft::body(rng.below(2) as u8, octets),
 };
 
@@ -52,6 +56,7 @@ pub const KISS: Framing = Framing {
         0x01,
         0x7E,
     ],
+    others: Vec::new,
     body: |rng, octets| {
         let kind = rng.pick(&[0, 0, 0, 0, 0x10, 0x01, 0xC0, rng.octet()]);
         kiss::escaped(&[&[kind], octets].concat())
@@ -73,7 +78,8 @@ fn octets(rng: &Rng, length: usize) -> Vec<u8> {
 }
 
 impl Framing {
-    /// One piece of a capture: a frame, a damaged one, a run of flags, or octets without a rule; at times with flow control.
+    /// One piece of a capture: a frame, a damaged one, a run of flags, or octets without a rule; at times with odd pairs and flow
+    /// control.
     fn piece(&self, rng: &Rng) -> Vec<u8> {
         let size = match rng.below(100) {
             0 => rng.pick(&[2559, 2560, 2561, 2562, 2600, 6000]),
@@ -85,6 +91,7 @@ impl Framing {
             1 => vec![self.flag; rng.between(1, 4)],
             2 => [&rng.octets(rng.below(3))[..], &[self.flag]].concat(),
             3 => [&octets(rng, size)[..], &[self.escape, self.flag]].concat(),
+            4 if rng.once_in(24) => [&pairs::near_limit(rng)[..], &[self.flag]].concat(),
             _ => [&(self.body)(rng, &octets(rng, size))[..], &[self.flag]].concat(),
         };
         if rng.once_in(4) {
@@ -94,6 +101,9 @@ impl Framing {
                 1 => piece.insert(i, rng.pick(&self.damage)),
                 _ => drop(piece.remove(i)),
             }
+        }
+        if rng.once_in(4) {
+            piece = pairs::strewn(rng, &piece);
         }
         if rng.once_in(3) {
             piece = flow::strewn(rng, &piece);
@@ -143,18 +153,30 @@ impl Framing {
         })
     }
 
-    /// A capture that takes a program very many reads, a piece each.
+    /// A piece, at times cut in two behind an escape.
+    fn cut_piece(&self, rng: &Rng) -> Vec<Vec<u8>> {
+        let mut piece = self.piece(rng);
+        let escapes = piece.iter().enumerate().filter(|(_, x)| **x == self.escape);
+        let places: Vec<usize> = escapes.map(|(i, _)| i + 1).collect();
+        if places.is_empty() || rng.once_in(2) {
+            return vec![piece];
+        }
+        let behind = piece.split_off(rng.pick(&places));
+        vec![piece, behind]
+    }
+
+    /// A capture that takes a program very many reads, of a piece each or a part of one.
     pub fn many_reads(&self, rng: &Rng) -> (u64, Vec<Vec<u8>>) {
-        let pieces = std::iter::repeat_with(|| self.piece(rng));
+        let pieces = std::iter::repeat_with(|| self.cut_piece(rng)).flatten();
         let portions = pieces.filter(|piece| !piece.is_empty()).take(READS);
         (READS as u64, portions.collect())
     }
 
-    /// Every segment of up to five octets of a small alphabet, flags among them, with a flag after each.
+    /// Every segment of up to five octets of a small alphabet, flags among them, and the others, with a flag after each.
     pub fn each_segment(&self) -> (u64, Vec<u8>) {
-        let segments = &each(self.alphabet, 5)[1..];
+        let segments = [&each(self.alphabet, 5)[1..], &(self.others)()].concat();
         let mut capture = vec![self.flag];
-        for segment in segments {
+        for segment in &segments {
             capture.extend(segment);
             capture.push(self.flag);
         }

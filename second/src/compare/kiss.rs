@@ -1,8 +1,8 @@
 //! KISS: the frame writer, the chunk reader from states of every kind and over lines in random portions, and the conversions of whole
 //! captures.
-use super::flow;
 use super::tally::{hex, Out, Tally};
-use crate::archive::{self, RawKissReader};
+use super::{flow, pairs};
+use crate::archive::kiss::{self as archive, RawReader};
 use second::kiss::reader::{self, State, MANY, STORE};
 use second::kiss::{self, Converted};
 use second::qaft;
@@ -35,7 +35,7 @@ fn write_one(rng: &Rng, payload: &[u8], tally: &mut Tally) {
     let seed = rng.octet();
     let (mut ours, mut archive) = (Out::new(room, seed), Out::new(room, seed));
     let written = kiss::write(at_flag, payload, ours.room());
-    let by_archive = archive::kiss_write(at_flag, payload, archive.room());
+    let by_archive = archive::write(at_flag, payload, archive.room());
     tally.number(written.number);
     tally.input(&(written, ours), &(by_archive, archive), || {
         format!("at_flag {at_flag}, room {room}, payload {}", hex(payload))
@@ -88,7 +88,7 @@ fn read_one(
     let seed = rng.octet();
     let (mut ours, mut archive) = (Out::new(room, seed), Out::new(room, seed));
     let truth = |b: bool| if b { rng.between(1, 255) as u8 } else { 0 };
-    let raw = RawKissReader {
+    let raw = RawReader {
         synced: truth(from.flag),
         pending: truth(from.pending),
         bad_escape: truth(from.bad),
@@ -100,7 +100,7 @@ fn read_one(
         4 | 5 => raw,
         _ => next.into(),
     };
-    let by_archive = archive::kiss_read(raw, portion, archive.room());
+    let by_archive = archive::read(raw, portion, archive.room());
     tally.number(answer.number);
     tally.input(&((later, answer), ours), &(by_archive, archive), || {
         format!("{raw:X?}, room {room}, portion {}", hex(portion))
@@ -136,7 +136,7 @@ fn line(rng: &Rng) -> Vec<u8> {
 
 pub fn reader(rng: &Rng, count: u64, tally: &mut Tally) {
     let fresh = State::default();
-    tally.input(&RawKissReader::from(fresh), &archive::kiss_fresh(), || {
+    tally.input(&RawReader::from(fresh), &archive::fresh(), || {
         "fresh".to_owned()
     });
     for _ in 0..count / 2 {
@@ -201,7 +201,7 @@ fn same_conversion(rng: &Rng, capture: &[u8], tally: &mut Tally) {
     let room = 2 * capture.len() + 16;
     let [without, with] = [capture, &flow::strewn(rng, capture)].map(|capture| {
         let mut out = vec![0; room];
-        (archive::qaft_to_kiss(1, capture, &mut out), out)
+        (archive::from_qaft(1, capture, &mut out), out)
     });
     tally.claim(
         "11 and 13 put into a level 1 capture change no conversion",
@@ -209,38 +209,59 @@ fn same_conversion(rng: &Rng, capture: &[u8], tally: &mut Tally) {
     );
 }
 
+/// A capture of QAFT frames, damaged ones and overlong segments; one in three with odd pairs.
+fn qaft_capture(rng: &Rng) -> Vec<u8> {
+    let mut capture = octets(rng, rng.below(6));
+    for _ in 0..rng.below(5) {
+        capture.push(qaft::FLAG);
+        let length = if rng.once_in(60) {
+            rng.between(2_500, 2_570)
+        } else {
+            rng.between(1, 20)
+        };
+        let mut body = qaft::body(rng.below(2) as u8, &octets(rng, length));
+        if rng.once_in(4) {
+            let i = rng.below(body.len());
+            body[i] = rng.octet();
+        }
+        match rng.below(16) {
+            0 => body.clear(),
+            1 => body.push(qaft::ESCAPE),
+            2 if rng.once_in(8) => body = pairs::near_limit(rng),
+            _ => {}
+        }
+        capture.extend(body);
+    }
+    capture.push(qaft::FLAG);
+    if rng.once_in(3) {
+        capture = pairs::strewn(rng, &capture);
+    }
+    capture
+}
+
+fn from_qaft_one(rng: &Rng, level: u8, capture: &[u8], tally: &mut Tally) {
+    flow::count(level, capture, tally);
+    pairs::count(level, capture, tally);
+    let ways = [kiss::from_qaft, archive::from_qaft];
+    convert_one(rng, level, capture, ways, tally);
+}
+
 pub fn from_qaft(rng: &Rng, count: u64, tally: &mut Tally) {
     flow::came_up(&[0, 1], tally);
-    for _ in 0..count {
-        let mut capture = octets(rng, rng.below(6));
-        for _ in 0..rng.below(5) {
-            capture.push(qaft::FLAG);
-            let length = if rng.once_in(60) {
-                rng.between(2_500, 2_570)
-            } else {
-                rng.between(1, 20)
-            };
-            let mut body = qaft::body(rng.below(2) as u8, &octets(rng, length));
-            if rng.once_in(4) {
-                let i = rng.below(body.len());
-                body[i] = rng.octet();
-            }
-            match rng.below(16) {
-                0 => body.clear(),
-                1 => body.push(qaft::ESCAPE),
-                _ => {}
-            }
-            capture.extend(body);
+    pairs::came_up(&[0, 1], tally);
+    for segment in [pairs::each(), pairs::each_long(&pairs::PARTNERS)].concat() {
+        let capture = [&[qaft::FLAG], &segment[..], &[qaft::FLAG]].concat();
+        for level in [0, 1] {
+            from_qaft_one(rng, level, &capture, tally);
         }
-        capture.push(qaft::FLAG);
+    }
+    for _ in 0..count {
+        let mut capture = qaft_capture(rng);
         same_conversion(rng, &capture, tally);
         if rng.once_in(2) {
             capture = flow::strewn(rng, &capture);
         }
-        let level = level(rng);
-        flow::count(level, &capture, tally);
-        let ways = [kiss::from_qaft, archive::qaft_to_kiss];
-        convert_one(rng, level, &capture, ways, tally);
+        from_qaft_one(rng, level(rng), &capture, tally);
     }
 }
 
@@ -251,7 +272,7 @@ pub fn to_qaft(rng: &Rng, count: u64, tally: &mut Tally) {
         while rng.once_in(3) {
             capture.extend(line(rng));
         }
-        let ways = [kiss::to_qaft, archive::kiss_to_qaft];
+        let ways = [kiss::to_qaft, archive::to_qaft];
         convert_one(rng, level(rng), &capture, ways, tally);
     }
 }

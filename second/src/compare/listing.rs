@@ -1,25 +1,14 @@
 //! The listing programs, run as processes.
 use super::captures::{Framing, KISS, QAFT};
-use super::flow;
 use super::process::{by_datagrams, by_pipe, examples, program, run, Run};
 use super::tally::{hex, Tally};
+use super::{flow, pairs};
 use second::rng::Rng;
 use second::{kiss, listing, qaft};
 use std::fs::File;
 
-pub const NUMBERS: [u8; 5] = [10, 11, 12, 13, 14];
+pub const NUMBERS: [u8; 6] = [10, 11, 12, 13, 14, 16];
 pub const KISS_NUMBERS: [u8; 5] = [10, 60, 61, 62, 63];
-
-/// The paper's number for a report.
-fn number(report: &qaft::Report) -> u8 {
-    match report {
-        qaft::Report::Frame(_) => 10,
-        qaft::Report::Aborted => 11,
-        qaft::Report::Long => 12,
-        qaft::Report::Short => 13,
-        qaft::Report::Bad => 14,
-    }
-}
 
 /// The request's number for a report.
 fn kiss_number(report: &kiss::Report) -> u8 {
@@ -32,24 +21,38 @@ fn kiss_number(report: &kiss::Report) -> u8 {
     }
 }
 
-/// A listing program: its name and level, what its captures are made of, what is counted of a capture, and the listing.
+/// A listing program: its name and level, what its captures are made of, what is counted of a capture and of its reads, and the
+/// listing.
 struct Program {
     name: &'static str,
     level: u8,
     framing: Framing,
     count: Count,
+    reads: Reads,
     listing: fn(u8, &[u8]) -> String,
 }
 
 /// Counts what comes up in a capture that is read at a level.
 pub type Count = fn(u8, &[u8], &mut Tally);
+/// Counts how the reads of one end.
+pub type Reads = fn(u8, &[Vec<u8>], &mut Tally);
 
-/// The numbers of a capture's reports, and how flow control stands in it.
+/// The reads that end inside a bad pair.
+pub fn count_reads(level: u8, portions: &[Vec<u8>], tally: &mut Tally) {
+    let parted = pairs::parted_by_portions(level, portions);
+    tally.count(
+        "reads that end between a 7D and the partner of a bad pair",
+        parted,
+    );
+}
+
+/// The numbers of a capture's reports, and how flow control and pairs stand in it.
 pub fn count_qaft(level: u8, capture: &[u8], tally: &mut Tally) {
     for report in &qaft::read_line(level, capture).reports {
-        tally.number(number(report));
+        tally.number(report.number());
     }
     flow::count(level, capture, tally);
+    pairs::count(level, capture, tally);
 }
 
 /// The numbers of a capture's reports; KISS has no level.
@@ -79,6 +82,7 @@ impl Program {
             tally.count("captures of examples/", 1);
         }
         let (pieces, portions) = self.framing.many_reads(rng);
+        (self.reads)(self.level, &portions, tally);
         let archive = by_datagrams(self.name, &portions);
         self.one(pieces, &portions.concat(), archive, tally);
         let (pieces, capture) = self.framing.each_segment();
@@ -93,11 +97,13 @@ impl Program {
 
 fn qaft(name: &'static str, level: u8, rng: &Rng, count: u64, tally: &mut Tally) {
     flow::came_up(&[level], tally);
+    pairs::came_up(&[level], tally);
     Program {
         name,
         level,
         framing: QAFT,
         count: count_qaft,
+        reads: count_reads,
         listing: listing::listing,
     }
     .compare(rng, count, tally);
@@ -117,6 +123,7 @@ pub fn kiss(rng: &Rng, count: u64, tally: &mut Tally) {
         level: 0,
         framing: KISS,
         count: count_kiss,
+        reads: |_, _, _| {},
         listing: |_, capture| listing::kiss_listing(capture),
     }
     .compare(rng, count, tally);

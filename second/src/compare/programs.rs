@@ -3,8 +3,8 @@
 use super::captures::{Framing, KISS, QAFT};
 use super::process::{by_datagrams, by_pipe, examples, program, run, Run};
 use super::tally::{hex, Tally};
-use super::{flow, listing};
-use crate::archive;
+use super::{flow, listing, pairs};
+use crate::archive::kiss as archive;
 use second::kiss::{self, Converted};
 use second::rng::Rng;
 use std::fs::File;
@@ -13,7 +13,7 @@ use std::os::fd::OwnedFd;
 use std::os::unix::net::UnixStream;
 use std::time::Duration;
 
-pub const FROM_QAFT: [u8; 5] = listing::NUMBERS;
+pub const FROM_QAFT: [u8; 6] = listing::NUMBERS;
 pub const TO_QAFT: [u8; 5] = listing::KISS_NUMBERS;
 
 /// How many portions are sent one by one, and how long a program may take over each.
@@ -23,29 +23,32 @@ const PATIENCE: Duration = Duration::from_secs(20);
 type Convert = fn(u8, &[u8], &mut [u8]) -> Converted;
 
 /// A way to convert: the program of level 0, the framing of its captures, the two functions for whole captures, and what is counted
-/// of a capture.
+/// of a capture and of its reads.
 struct Way {
     name: &'static str,
     framing: Framing,
     ours: Convert,
     archive: Convert,
     count: listing::Count,
+    reads: listing::Reads,
 }
 
 const OUT_OF_QAFT: Way = Way {
     name: "qaft_to_kiss",
     framing: QAFT,
     ours: kiss::from_qaft,
-    archive: archive::qaft_to_kiss,
+    archive: archive::from_qaft,
     count: listing::count_qaft,
+    reads: listing::count_reads,
 };
 
 const INTO_QAFT: Way = Way {
     name: "kiss_to_qaft",
     framing: KISS,
     ours: kiss::to_qaft,
-    archive: archive::kiss_to_qaft,
+    archive: archive::to_qaft,
     count: listing::count_kiss,
+    reads: |_, _, _| {},
 };
 
 /// What a program has to write of a capture, by a function for whole captures.
@@ -157,6 +160,7 @@ impl Way {
             self.failures(level, tally);
             self.at_once(level, rng, tally);
             let (pieces, portions) = self.framing.many_reads(rng);
+            (self.reads)(level, &portions, tally);
             let seen = by_datagrams(&name, &portions);
             self.one(level, pieces, &portions.concat(), seen, tally);
             let (pieces, capture) = self.framing.each_segment();
@@ -173,6 +177,7 @@ impl Way {
 
 pub fn from_qaft(rng: &Rng, count: u64, tally: &mut Tally) {
     flow::came_up(&[0, 1], tally);
+    pairs::came_up(&[0, 1], tally);
     OUT_OF_QAFT.compare(rng, count, tally);
 }
 

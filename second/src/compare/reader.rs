@@ -1,22 +1,19 @@
-//! The QAFT chunk reader: single calls from states of every kind, and lines handed over in random portions, without flow control
-//! and with it.
-use super::flow::{self, is_flow};
+//! The QAFT chunk reader: single calls from states of every kind, and lines handed over in random portions, with flow control and
+//! odd pairs and without them.
+mod alone;
+mod borders;
+
 use super::make::{each, octets};
 use super::tally::{hex, Out, Tally};
+use super::{flow, pairs, FULL};
 use crate::archive::{self, RawReader};
-use second::qaft;
+use second::qaft::{self, ESCAPE, FLAG};
 use second::reader::{self, Answer, State, MANY, STORE};
 use second::rng::Rng;
 
-pub const NUMBERS: [u8; 9] = [4, 5, 6, 10, 11, 12, 13, 14, 15];
+pub const NUMBERS: [u8; 10] = [4, 5, 6, 10, 11, 12, 13, 14, 15, 16];
 
 const ROOMS: [usize; 5] = [0, STORE - 1, STORE, STORE + 1, STORE + 100];
-
-/// What has to come up at level 1.
-const BEGINS: &str = "portions that begin with 11 or 13 while a 7D waits";
-const ENDS: &str = "portions that end with 11 or 13 while a 7D waits";
-const NOTHING_ELSE: &str = "portions of nothing but 11 or 13";
-const WITH_AND_WITHOUT: &str = "reports with and without 11 and 13";
 
 fn level(rng: &Rng) -> u8 {
     match rng.below(16) {
@@ -42,17 +39,7 @@ fn state(rng: &Rng) -> State {
         pending: rng.once_in(3),
         count,
         sum,
-    }
-}
-
-/// Counts how flow control stands at the borders of a portion, from a state that a call goes on with.
-fn borders(from: State, portion: &[u8], next: State, tally: &mut Tally) {
-    if from.level == 1 && next.flag && !portion.is_empty() {
-        let begins = from.pending && is_flow(portion[0]);
-        let ends = next.pending && is_flow(portion[portion.len() - 1]);
-        tally.count(BEGINS, begins.into());
-        tally.count(ENDS, ends.into());
-        tally.count(NOTHING_ELSE, portion.iter().all(|&x| is_flow(x)).into());
+        bad_pair: rng.once_in(if count == 0 { 8 } else { 4 }),
     }
 }
 
@@ -62,9 +49,8 @@ fn one(from: State, portion: &[u8], room: usize, seed: u8, tally: &mut Tally) ->
     let given = reader::read(from, portion, ours.room());
     let by_archive = archive::qaft_read(from.into(), portion, archive.room());
     tally.number(given.1.number);
-    if given.1.taken > 0 {
-        borders(from, &portion[..given.1.taken], given.0, tally);
-    }
+    borders::count(from, portion, given, tally);
+    alone::frame(from.level, portion, by_archive.1, archive.room(), tally);
     tally.input(
         &((RawReader::from(given.0), given.1), ours),
         &(by_archive, archive),
@@ -73,43 +59,54 @@ fn one(from: State, portion: &[u8], room: usize, seed: u8, tally: &mut Tally) ->
     given
 }
 
-/// Every pair of numbers for whether a flag has come and whether a 7D waits: any but 0 stands for true. What is refused
-/// comes back as it is, all else as 0 and 1.
-fn numbers_for_bools(rng: &Rng, tally: &mut Tally) {
-    let portion = [0x5E, 0x82, qaft::FLAG, 0x41];
+/// Numbers for whether a flag has come, a 7D waits and a bad pair came: any but 0 stands for true. What is refused comes back as it
+/// is, all else as 0 and 1.
+fn numbers_for_bools(rng: &Rng, [synced, pending, bad_pair]: [u8; 3], tally: &mut Tally) {
+    let portion = [rng.pick(&[0x5E, 0x31, 0x41]), 0x82, FLAG, 0x41];
+    let from = State {
+        level: rng.below(2) as u8,
+        flag: synced != 0,
+        pending: pending != 0,
+        count: rng.pick(&[0, 0, 2]),
+        sum: 0,
+        bad_pair: bad_pair != 0,
+    };
+    let raw = RawReader {
+        synced,
+        pending,
+        bad_pair,
+        ..from.into()
+    };
+    let (mut ours, mut archive) = (Out::new(STORE, 1), Out::new(STORE, 1));
+    let (next, answer) = reader::read(from, &portion, ours.room());
+    let later = match answer.number {
+        5 => raw,
+        _ => next.into(),
+    };
+    let by_archive = archive::qaft_read(raw, &portion, archive.room());
+    tally.number(answer.number);
+    borders::count(from, &portion, (next, answer), tally);
+    tally.input(&((later, answer), ours), &(by_archive, archive), || {
+        format!("{raw:X?}, portion {}", hex(&portion))
+    });
+}
+
+/// Every pair of numbers in two of the three, with one of a few in the third.
+fn each_pair_of_numbers(rng: &Rng, tally: &mut Tally) {
     for pair in 0..=u16::MAX {
-        let [synced, pending] = pair.to_be_bytes();
-        let from = State {
-            level: 0,
-            flag: synced != 0,
-            pending: pending != 0,
-            count: rng.pick(&[0, 0, 2]),
-            sum: 0,
-        };
-        let raw = RawReader {
-            synced,
-            pending,
-            ..from.into()
-        };
-        let (mut ours, mut archive) = (Out::new(STORE, 1), Out::new(STORE, 1));
-        let (next, answer) = reader::read(from, &portion, ours.room());
-        let later = match answer.number {
-            5 => raw,
-            _ => next.into(),
-        };
-        let by_archive = archive::qaft_read(raw, &portion, archive.room());
-        tally.number(answer.number);
-        tally.input(&((later, answer), ours), &(by_archive, archive), || {
-            format!("{raw:X?}, portion {}", hex(&portion))
-        });
+        let [a, b] = pair.to_be_bytes();
+        let few = rng.pick(&[0, 0, 1, 2, 0x80, 0xFF]);
+        for numbers in [[a, b, few], [a, few, b], [few, a, b]] {
+            numbers_for_bools(rng, numbers, tally);
+        }
     }
 }
 
-/// A line of frames, damaged frames, noise, overlong segments and empty ones.
+/// A line of frames, damaged frames, noise, overlong segments and empty ones; one in three with odd pairs.
 fn line(rng: &Rng) -> Vec<u8> {
     let mut line = octets(rng, rng.pick(&[0, 0, 1, 5]));
     for _ in 0..rng.between(1, 4) {
-        line.push(qaft::FLAG);
+        line.push(FLAG);
         let length = match rng.below(24) {
             0 => rng.between(STORE - 3, MANY + 2),
             _ => rng.between(1, 20),
@@ -121,31 +118,45 @@ fn line(rng: &Rng) -> Vec<u8> {
         }
         match rng.below(16) {
             0 => body.clear(),
-            1 | 2 => body.push(qaft::ESCAPE),
+            1 | 2 => body.push(ESCAPE),
+            3 if rng.once_in(4) => body = pairs::near_limit(rng),
             _ => {}
         }
         line.extend(body);
     }
     if !rng.once_in(3) {
-        line.push(qaft::FLAG);
+        line.push(FLAG);
+    }
+    if rng.once_in(3) {
+        line = pairs::strewn(rng, &line);
     }
     line
 }
 
-/// A line in portions, empty ones too: after each report the rest of the portion goes into the next call.
-fn in_portions(rng: &Rng, level: u8, line: &[u8], tally: &mut Tally) {
-    flow::count(level, line, tally);
+/// A line cut into portions, empty ones too.
+fn cut<'a>(rng: &Rng, line: &'a [u8]) -> Vec<&'a [u8]> {
+    let mut portions = Vec::new();
+    let mut rest = line;
+    while !rest.is_empty() {
+        let (portion, later) = rest.split_at(rng.below(rest.len() + 2).min(rest.len()));
+        portions.push(portion);
+        rest = later;
+    }
+    portions
+}
+
+/// A line in portions: after each report the rest of the portion goes into the next call.
+fn in_portions(rng: &Rng, level: u8, portions: &[&[u8]], tally: &mut Tally) {
     let mut now = State::fresh(level);
     tally.input(&RawReader::from(now), &archive::qaft_fresh(level), || {
         format!("fresh {level}")
     });
-    let mut at = 0;
-    while at < line.len() {
-        let end = at + rng.below(line.len() - at + 2).min(line.len() - at);
+    for portion in portions {
+        let mut rest = *portion;
         loop {
-            let (next, answer) = one(now, &line[at..end], STORE, rng.octet(), tally);
+            let (next, answer) = one(now, rest, STORE, rng.octet(), tally);
             now = next;
-            at += answer.taken;
+            rest = &rest[answer.taken..];
             if answer.number == 15 {
                 break;
             }
@@ -153,63 +164,54 @@ fn in_portions(rng: &Rng, level: u8, line: &[u8], tally: &mut Tally) {
     }
 }
 
-/// Every line of a flag and up to five octets of six, at both levels.
+/// A line, whole and in random portions.
+fn read_line(rng: &Rng, level: u8, line: &[u8], tally: &mut Tally) {
+    flow::count(level, line, tally);
+    pairs::count(level, line, tally);
+    in_portions(rng, level, &cut(rng, line), tally);
+    alone::whole(rng, level, line, tally);
+}
+
+/// Every line of a flag and up to five octets of nine, at both levels.
 fn each_short(rng: &Rng, tally: &mut Tally) {
-    for octets in each(&[qaft::FLAG, qaft::ESCAPE, 0x11, 0x13, 0x31, 0x00], 5) {
-        let line = [&[qaft::FLAG], &octets[..]].concat();
+    let alphabet = [FLAG, ESCAPE, 0x11, 0x13, 0x31, 0x00, 0x5E, 0x82, 0xEF];
+    for octets in each(&alphabet, 5) {
+        let line = [&[FLAG], &octets[..]].concat();
         for level in [0, 1] {
-            in_portions(rng, level, &line, tally);
+            read_line(rng, level, &line, tally);
         }
     }
 }
 
-/// What the archive makes of a line: its reports with the data of frames, and the state and the buffer at the end.
-struct Line {
-    reports: Vec<(u8, Vec<u8>)>,
-    end: (RawReader, Vec<u8>),
-}
-
-/// A level 1 line in portions, by the archive.
-fn by_archive(rng: &Rng, line: &[u8]) -> Line {
-    let most = rng.pick(&[1, 3, 100, 9_000]);
-    let (mut now, mut store) = (archive::qaft_fresh(1), vec![0xAA; STORE]);
-    let mut reports = Vec::new();
-    let mut at = 0;
-    while at < line.len() {
-        let end = line.len().min(at + rng.between(1, most));
-        let (next, answer) = archive::qaft_read(now, &line[at..end], &mut store);
-        now = next;
-        at += answer.taken;
-        if answer.number != 15 {
-            reports.push((answer.number, store[..answer.length].to_vec()));
+/// 7D before every octet, in short segments and around the limits; also with the end of a portion between them, at level 1 with flow
+/// control on both sides of it.
+fn each_pair(rng: &Rng, tally: &mut Tally) {
+    let partners: Vec<u8> = (0..=255).filter(|&x| x != FLAG).collect();
+    for segment in [pairs::each(), pairs::each_long(&partners)].concat() {
+        let line = [&[FLAG], &segment[..], &[FLAG]].concat();
+        let place = line.iter().position(|&x| x == ESCAPE).expect("a 7D");
+        let (waits, partner) = line.split_at(place + 1);
+        for level in [0, 1] {
+            read_line(rng, level, &line, tally);
+            in_portions(rng, level, &[waits, partner], tally);
         }
+        let (waits, partner) = ([waits, &[0x11]].concat(), [&[0x13], partner].concat());
+        in_portions(rng, 1, &[&waits, &[], &partner], tally);
+        alone::whole(rng, 1, &[waits, partner].concat(), tally);
     }
-    let end = (now, store);
-    Line { reports, end }
-}
-
-/// Demand 2 by request 2026-02, of the archive alone: a level 1 line, and the same with flow control put in, each cut in its own way.
-fn same_reports(rng: &Rng, line: &[u8], tally: &mut Tally) {
-    let without = by_archive(rng, line);
-    let with = by_archive(rng, &flow::strewn(rng, line));
-    tally.count(WITH_AND_WITHOUT, without.reports.len() as u64);
-    tally.claim(
-        "11 and 13 put into a level 1 line change no report",
-        with.reports == without.reports,
-    );
-    tally.claim(
-        "11 and 13 put into a level 1 line change neither state nor buffer",
-        with.end == without.end,
-    );
 }
 
 pub fn compare(rng: &Rng, count: u64, tally: &mut Tally) {
-    for name in [BEGINS, ENDS, NOTHING_ELSE, WITH_AND_WITHOUT] {
-        tally.count(name, 0);
-    }
+    borders::came_up(tally);
+    alone::came_up(tally);
     flow::came_up(&[0, 1], tally);
-    numbers_for_bools(rng, tally);
+    pairs::came_up(&[0, 1], tally);
+    each_pair_of_numbers(rng, tally);
     each_short(rng, tally);
+    each_pair(rng, tally);
+    for size in 1..=if count >= FULL { 3 } else { 2 } {
+        alone::each_segment(rng, size, tally);
+    }
     for _ in 0..count / 2 {
         let portion = match rng.below(6) {
             0 => line(rng),
@@ -221,11 +223,12 @@ pub fn compare(rng: &Rng, count: u64, tally: &mut Tally) {
     }
     for _ in 0..count / 4 {
         let line = line(rng);
-        same_reports(rng, &line, tally);
+        alone::same_reports(rng, &line, tally);
+        alone::whole(rng, 0, &line, tally);
         let line = match rng.below(2) {
             0 => line,
             _ => flow::strewn(rng, &line),
         };
-        in_portions(rng, rng.below(2) as u8, &line, tally);
+        read_line(rng, rng.below(2) as u8, &line, tally);
     }
 }

@@ -7,16 +7,13 @@ mod program;
 pub use lines::compare as lines;
 pub use program::{compare as program, NUMBERS as RUN_NUMBERS};
 
-use super::flow;
 use super::tally::{hex, Tally};
+use super::{flow, pairs, FULL};
 use crate::archive::sheet as archive;
 use second::rng::Rng;
 use second::sheet::{self, Counted, Record, COUNTS, LINES, OCTETS};
 
 pub const NUMBERS: [u8; 4] = [0, 6, 50, 51];
-
-/// From this many inputs on, captures of 2^32 octets are compared too: the full count.
-const FULL: u64 = 1_000_000;
 
 /// By the order of the counts: refused since this one alone would pass 32 bits.
 const ALONE: [&str; COUNTS] = [
@@ -30,6 +27,7 @@ const ALONE: [&str; COUNTS] = [
     "51 by long alone",
     "51 by short alone",
     "51 by bad checks alone",
+    "51 by bad pairs alone",
     "51 by DATA alone",
     "51 by DACK alone",
     "51 by repeats alone",
@@ -82,6 +80,7 @@ impl Call<'_> {
     fn count(&self, number: u8, later: &[Record], tally: &mut Tally) {
         tally.number(number);
         flow::count(self.level, self.capture, tally);
+        pairs::count(self.level, self.capture, tally);
         let more = sheet::counts(self.level, self.capture).in_order();
         match number {
             0 => {
@@ -149,13 +148,18 @@ impl Call<'_> {
 }
 
 /// A capture with a table of its own, or with that of the capture before.
-fn one(rng: &Rng, capture: &[u8], before: Vec<Record>, tally: &mut Tally) -> Vec<Record> {
+fn one(
+    rng: &Rng,
+    level: u8,
+    capture: &[u8],
+    before: Vec<Record>,
+    tally: &mut Tally,
+) -> Vec<Record> {
     let table = match rng.below(3) {
         0 => before,
         _ => make::table(rng),
     };
     let line = make::line(rng, table.len());
-    let level = level(rng);
     let mut call = Call {
         level,
         capture,
@@ -210,8 +214,8 @@ fn same_counts(rng: &Rng, capture: &[u8], tally: &mut Tally) {
 fn longest(tally: &mut Tally) {
     const MOST: u64 = u32::MAX as u64;
     let mut octets = vec![0_u8; MOST as usize + 4];
-    let before = |n| [n, 0, 0, 0, 0, 0, 0, 0, 0, 0, 0, 0, 0];
-    let long = |n| [0, 2, n, 0, 0, 0, 0, 1, 0, 0, 0, 0, 0];
+    let before = |n| [n, 0, 0, 0, 0, 0, 0, 0, 0, 0, 0, 0, 0, 0];
+    let long = |n| [0, 2, n, 0, 0, 0, 0, 1, 0, 0, 0, 0, 0, 0];
     let mut one = |octets: &[u8], counts: [u64; COUNTS]| {
         let mut table = [[0; COUNTS]; 2];
         let number = archive::tally(0, octets, 1, &mut table);
@@ -241,11 +245,17 @@ pub fn captures(rng: &Rng, count: u64, tally: &mut Tally) {
     came_up(&[AT_LIMIT, PAST_TABLE, PAST_LINES], tally);
     came_up(&lines::COUNTED, tally);
     flow::came_up(&[0, 1], tally);
+    pairs::came_up(&[0, 1], tally);
     limits(rng, 0, tally);
     limits(rng, 1, tally);
     let mut table = Vec::new();
     for capture in make::each_short().into_iter().chain(make::each_sequence()) {
-        table = one(rng, &capture, table, tally);
+        table = one(rng, level(rng), &capture, table, tally);
+    }
+    for capture in make::each_pair() {
+        for level in [0, 1] {
+            table = one(rng, level, &capture, table, tally);
+        }
     }
     for _ in 0..count {
         let pieces = match rng.below(2_000) {
@@ -258,7 +268,7 @@ pub fn captures(rng: &Rng, count: u64, tally: &mut Tally) {
         if rng.once_in(3) {
             capture = flow::strewn(rng, &capture);
         }
-        table = one(rng, &capture, table, tally);
+        table = one(rng, level(rng), &capture, table, tally);
     }
     if count >= FULL {
         longest(tally);

@@ -1,4 +1,6 @@
 //! Cases of the line sheet that the papers work out or that their sentences decide.
+mod printed;
+
 use super::*;
 use crate::link::{PAYLOAD, RESET};
 use crate::qaft::{ESCAPE, FLAG, MAX_DATA};
@@ -22,7 +24,7 @@ fn frames(all: &[&[u8]]) -> Vec<u8> {
 /// DATA, DACK and repeats of a line of frames.
 fn packets(all: &[&[u8]]) -> (u64, u64, u64) {
     let counts = counts(0, &frames(all));
-    assert_eq!(counts.reports, [all.len() as u64, 0, 0, 0, 0]);
+    assert_eq!(counts.reports, [all.len() as u64, 0, 0, 0, 0, 0]);
     (counts.data, counts.dack, counts.repeats)
 }
 
@@ -38,10 +40,10 @@ fn octets(level: u8, capture: &[u8]) -> ([u64; 5], u64) {
 fn capture_of_the_paper() {
     let mut table = [[0; COUNTS]; LINES];
     assert_eq!(tally(0, &PAPER, 0, &mut table), 0);
-    assert_eq!(line(0, &table[0]), "0 1 5 6 1 0 1 1 0 1 0 1 0 0 0/1\n");
+    assert_eq!(line(0, &table[0]), "0 1 5 6 1 0 1 1 0 1 0 0 1 0 0 0/1\n");
     assert_eq!(table[1..], [[0; COUNTS]; LINES - 1]);
     assert_eq!(tally(1, &PAPER, 0, &mut table), 0);
-    assert_eq!(line(0, &table[0]), "0 2 10 12 2 0 2 2 0 2 0 2 0 0 0/1\n");
+    assert_eq!(line(0, &table[0]), "0 2 10 12 2 0 2 2 0 2 0 0 2 0 0 0/1\n");
 }
 
 #[test]
@@ -84,23 +86,56 @@ fn skipped_octets() {
     assert_eq!(tally(1, &line, 1, &mut table), 0);
     assert_eq!(
         sheet(&table),
-        "0 0 3 5 0 0 1 0 0 0 1 1 0 0 1/2\n1 0 3 4 0 1 2 0 0 0 0 2 0 1 0/1\n"
+        "0 0 3 5 0 0 1 0 0 0 1 0 1 0 0 1/2\n1 0 3 4 0 1 2 0 0 0 0 0 2 0 1 0/1\n"
     );
 }
 
 #[test]
 fn reports_by_kind() {
     let mut line = frames(&[&[0x41]]);
-    for segment in [&[0x10, ESCAPE][..], &[0; MAX_DATA + 2], &[0], &[0x41, 0xBE]] {
+    let pair = [ESCAPE, 0x41, 0x9F];
+    for segment in [
+        &[0x10, ESCAPE][..],
+        &[0; MAX_DATA + 2],
+        &[0],
+        &[0x41, 0xBE],
+        &pair,
+    ] {
         line.extend(segment);
         line.push(FLAG);
         line.extend(segment);
         line.push(FLAG);
     }
     let counts = counts(0, &line);
-    assert_eq!(counts.reports, [1, 2, 2, 2, 2]);
-    assert_eq!(counts.segments, 2 + 2 * (2 + 2562 + 1 + 2));
-    assert_eq!(counts.flags, 10);
+    assert_eq!(counts.reports, [1, 2, 2, 2, 2, 2]);
+    assert_eq!(counts.segments, 2 + 2 * (2 + 2562 + 1 + 2 + 3));
+    assert_eq!(counts.flags, 12);
+}
+
+/// Change request 2026-04: a DATA that is written with a bad pair is no frame, so it is neither DATA nor the DATA before. 16 is
+/// printed behind 14, and is among all reports.
+#[test]
+fn bad_pairs() {
+    let bad = [ESCAPE, 0x43 ^ 0x20, 0xBD, FLAG];
+    let mut line = frames(&[&[0x43]]);
+    line.extend(bad);
+    let mut table = [[0; COUNTS]; 4];
+    assert_eq!(tally(0, &line, 0, &mut table), 0);
+    // a check that is one off behind it, and the DATA again
+    line.extend([0x43, 0xBE, FLAG]);
+    line.extend(frames(&[&[0x43]]));
+    assert_eq!(tally(1, &line, 1, &mut table), 0);
+    // a DATA 3 with the payload 11, as level 1 writes it
+    let pair = [FLAG, 0x43, ESCAPE, 0x31, 0xAC, FLAG];
+    assert_eq!(tally(0, &pair, 2, &mut table), 0);
+    assert_eq!(tally(1, &pair, 3, &mut table), 0);
+    let lines = [
+        "0 0 3 5 0 0 1 0 0 0 0 1 1 0 0 0/1",
+        "1 0 6 9 0 0 2 0 0 0 1 1 2 0 1 1/4",
+        "2 0 2 4 0 0 0 0 0 0 0 1 0 0 0 0/1",
+        "3 0 2 4 0 0 1 0 0 0 0 0 1 0 0 0/1",
+    ];
+    assert_eq!(sheet(&table), lines.join("\n") + "\n");
 }
 
 #[test]
@@ -128,7 +163,7 @@ fn repeats() {
     line.extend([0x44, 0xBB, FLAG, 0x44, ESCAPE, FLAG, 0x44, FLAG]);
     line.extend(frames(&[&[0x43]]));
     let found = counts(0, &line);
-    assert_eq!(found.reports, [2, 1, 0, 1, 1]);
+    assert_eq!(found.reports, [2, 1, 0, 1, 1, 0]);
     assert_eq!((found.data, found.repeats), (2, 1));
 }
 
@@ -148,7 +183,7 @@ fn no_repeat_across_captures() {
     let mut table = [[0; COUNTS]; 2];
     assert_eq!(tally(0, &capture, 1, &mut table), 0);
     assert_eq!(tally(0, &capture, 1, &mut table), 0);
-    assert_eq!(line(1, &table[1]), "1 0 4 4 0 0 2 0 0 0 0 2 0 0 0/1\n");
+    assert_eq!(line(1, &table[1]), "1 0 4 4 0 0 2 0 0 0 0 0 2 0 0 0/1\n");
 }
 
 #[test]
@@ -174,7 +209,7 @@ fn refusals_in_order() {
 #[test]
 fn counts_at_the_limit() {
     let mut capture = PAPER.to_vec();
-    capture.extend([FLAG, 0x13, 0x41, 0xBE, 0x11, FLAG]);
+    capture.extend([FLAG, 0x13, 0x41, 0xBE, 0x11, FLAG, ESCAPE, 0x41, FLAG]);
     capture.extend([0; MAX_DATA + 2]);
     capture.extend(frames(&[&[0x40], &[0x50]]));
     capture.push(0x33);
@@ -199,60 +234,6 @@ fn counts_at_the_limit() {
 }
 
 #[test]
-fn shares() {
-    let printed = |reports: [u32; 5]| {
-        let mut record = [0; COUNTS];
-        record[REPORTS].copy_from_slice(&reports);
-        let text = line(0, &record);
-        text.trim_end().rsplit(' ').next().map(str::to_owned)
-    };
-    let share = |reports, text: &str| assert_eq!(printed(reports), Some(text.to_owned()));
-    share([0; 5], "0/1");
-    share([3, 0, 0, 0, 6], "2/3");
-    share([0, 1, 1, 1, 6], "2/3");
-    share([0, 0, 0, 0, 6], "1/1");
-    share([5, 4, 3, 2, 0], "0/1");
-    share([MOST; 5], "1/5");
-    share([6, 0, 0, 0, 1], "1/7");
-    // all reports need more than 32 bits
-    share([MOST, 1, 0, 0, 2], "1/2147483649");
-    share([MOST, MOST, MOST, MOST - 1, MOST], "4294967295/21474836474");
-}
-
-/// The longest line there is, in the room that is asked for.
-#[test]
-fn longest_line() {
-    let mut record = [MOST; COUNTS];
-    record[REPORTS.start] = MOST - 1;
-    let text = line(usize::MAX, &record);
-    assert_eq!((text.len(), LONGEST_LINE, MAX_LINE), (187, 187, 336));
-    let mut out = [0xAA; MAX_LINE + 1];
-    assert_eq!(put_line(usize::MAX, &record, &mut out[..MAX_LINE - 1]), 0);
-    assert_eq!(out, [0xAA; MAX_LINE + 1]);
-    let room = &mut out[..MAX_LINE];
-    assert_eq!(put_line(usize::MAX, &record, room), LONGEST_LINE);
-    let (front, behind) = out.split_at(LONGEST_LINE);
-    assert_eq!(front, text.as_bytes());
-    assert_eq!(behind, [0xAA; MAX_LINE + 1 - LONGEST_LINE]);
-    // the room that is asked for does not depend on the line
-    assert_eq!(put_line(0, &[0; COUNTS], &mut out[..MAX_LINE - 1]), 0);
-    assert_eq!(put_line(0, &[0; COUNTS], &mut out), 32);
-}
-
-#[test]
-fn whole_sheet() {
-    assert_eq!(sheet(&[]), "");
-    let mut table = [[0; COUNTS]; 3];
-    assert_eq!(tally(0, &PAPER, 1, &mut table), 0);
-    assert_eq!(
-        sheet(&table),
-        "0 0 0 0 0 0 0 0 0 0 0 0 0 0 0/1\n1 1 5 6 1 0 1 1 0 1 0 1 0 0 0/1\n2 0 0 0 0 0 0 0 0 0 0 0 0 0 0/1\n"
-    );
-    // every record of a table that is longer than the lines go
-    assert_eq!(sheet(&[[0; COUNTS]; 66]).lines().count(), 66);
-}
-
-#[test]
 fn counts_of_a_level() {
     assert_eq!(
         count(2, &PAPER),
@@ -265,7 +246,7 @@ fn counts_of_a_level() {
         count(1, &PAPER),
         Counted {
             number: 0,
-            counts: [1, 5, 6, 1, 0, 1, 1, 0, 1, 0, 1, 0, 0]
+            counts: [1, 5, 6, 1, 0, 1, 1, 0, 1, 0, 0, 1, 0, 0]
         }
     );
 }

@@ -2,7 +2,7 @@
 use super::super::flow;
 use super::super::process::{examples, place};
 use super::make;
-use second::qaft::{self, FLAG};
+use second::qaft::{self, ESCAPE, FLAG, MAX_DATA};
 use second::rng::Rng;
 use std::fs::{self, File};
 use std::path::PathBuf;
@@ -153,15 +153,16 @@ pub fn set(rng: &Rng, files: &Files, most: u64) -> (u64, Vec<Entry>) {
     (most - left, entries)
 }
 
-/// Two DATA of one number, the second a repeat, with an escape in both, so that the end of a read falls on each of their octets. At
-/// level 1 flow control stands on both sides of each.
+/// Two DATA of one number, the second a repeat, with an escape in both, and between them a DATA of another with a bad pair, which is
+/// none, so that the end of a read falls on each of their octets. At level 1 flow control stands on both sides of each.
 pub fn across_reads(rng: &Rng, level: u8, files: &Files) -> Vec<Entry> {
-    let body = qaft::body(level, &[0x43, FLAG, 0x41]);
-    let body = match level {
-        0 => body,
+    let parted = |body: &[u8]| match level {
+        0 => body.to_vec(),
         _ => body.iter().flat_map(|&x| [0x13, x, 0x11]).collect(),
     };
-    let frames = [&[FLAG], &body[..], &[FLAG], &body, &[FLAG]].concat();
+    let body = parted(&qaft::body(level, &[0x43, FLAG, 0x41]));
+    let odd = parted(&[0x44, ESCAPE, 0x61, 0x7B]);
+    let frames = [&[FLAG], &body[..], &[FLAG], &odd, &[FLAG], &body, &[FLAG]].concat();
     let entry = |i: usize| {
         let mut capture = Vec::new();
         while capture.len() < 2 * READ {
@@ -174,7 +175,18 @@ pub fn across_reads(rng: &Rng, level: u8, files: &Files) -> Vec<Entry> {
     (0..=frames.len()).map(entry).collect()
 }
 
-/// Each pair that can't be counted, and a capture through a pipe that can.
+/// 7D before every octet, and before some around the limits: all in one file, and so in several reads. And a frame of the longest data
+/// with flow control behind it, which is one at level 1 alone.
+pub fn at_limits(files: &Files) -> Vec<Entry> {
+    let body = qaft::body(1, &[0x43; MAX_DATA]);
+    let frame = [&[FLAG], &body[..], &[0x11, FLAG]].concat();
+    vec![
+        files.entry(0, 7, make::each_pair().concat()),
+        files.entry(1, 8, frame),
+    ]
+}
+
+/// Each pair of arguments that can't be counted, and a capture through a pipe that can.
 pub fn each_refusal(rng: &Rng, files: &Files) -> Vec<Entry> {
     let words = NO_NUMBERS.map(str::to_owned).into_iter();
     let words = words.chain(PAST.map(|line| line.to_string())).enumerate();

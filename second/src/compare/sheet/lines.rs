@@ -10,7 +10,7 @@ const NO_ROOM: &str = "lines for which out is too small";
 /// What has to come up wherever lines are printed.
 pub const COUNTED: [&str; 2] = [PRINTED, NO_ROOM];
 /// What has to come up where lines of any number are.
-const LONGEST: &str = "lines of 187 octets";
+const LONGEST: &str = "lines of 198 octets";
 
 /// Room for a printed line: most often what is asked for.
 fn room(rng: &Rng) -> usize {
@@ -35,7 +35,7 @@ pub fn printed(
     let by_archive = archive::put_line(number, records[1], archive.room());
     tally.count(if length == 0 { NO_ROOM } else { PRINTED }, 1);
     tally.claim(
-        "no line is longer than 187 octets",
+        "no line is longer than 198 octets",
         by_archive <= LONGEST_LINE,
     );
     [(length, ours), (by_archive, archive)]
@@ -48,10 +48,11 @@ fn print_one(rng: &Rng, number: usize, record: &Record, tally: &mut Tally) {
     tally.input(&ours, &archive, || format!("line {number}, {record:?}"));
 }
 
-/// A record of so many frames and bad checks, and of nothing else.
-fn two_kinds(frames: u32, bad: u32) -> Record {
+/// A record of so many bad checks and so many reports of another kind, and of nothing else.
+fn two_kinds(rng: &Rng, others: u32, bad: u32) -> Record {
+    let kinds: Vec<usize> = REPORTS.filter(|&kind| kind != BAD_CHECKS).collect();
     let mut record = [0; COUNTS];
-    (record[REPORTS.start], record[BAD_CHECKS]) = (frames, bad);
+    (record[rng.pick(&kinds)], record[BAD_CHECKS]) = (others, bad);
     record
 }
 
@@ -59,7 +60,8 @@ fn two_kinds(frames: u32, bad: u32) -> Record {
 fn many_steps(rng: &Rng, tally: &mut Tally) {
     let (mut a, mut b) = (1_u32, 1_u32);
     while let Some(sum) = a.checked_add(b) {
-        for record in [two_kinds(a, b), two_kinds(b, a), two_kinds(a + b, a + b)] {
+        for (others, bad) in [(a, b), (b, a), (a + b, a + b)] {
+            let record = two_kinds(rng, others, bad);
             print_one(rng, rng.below(LINES), &record, tally);
         }
         (a, b) = (b, sum);
@@ -69,9 +71,10 @@ fn many_steps(rng: &Rng, tally: &mut Tally) {
 pub fn compare(rng: &Rng, count: u64, tally: &mut Tally) {
     came_up(&COUNTED, tally);
     came_up(&[LONGEST], tally);
-    for frames in 0..100 {
+    for others in 0..100 {
         for bad in 0..100 {
-            print_one(rng, rng.below(LINES), &two_kinds(frames, bad), tally);
+            let record = two_kinds(rng, others, bad);
+            print_one(rng, rng.below(LINES), &record, tally);
         }
     }
     many_steps(rng, tally);

@@ -1,5 +1,6 @@
 //! Makes captures of DLC packets, damaged ones and noise, and records with counts of every size.
 use super::super::make::{each, octets};
+use super::super::pairs;
 use second::link::{DACK, DATA, PAYLOAD, RESET, RESET_ACK};
 use second::qaft::{self, ESCAPE, FLAG, MAX_DATA};
 use second::rng::Rng;
@@ -51,6 +52,8 @@ fn piece(rng: &Rng, last: &mut u8) -> Vec<u8> {
         2 => piece.clear(),
         3 => piece = octets(rng, rng.below(8)),
         4..=6 => damage(rng, &mut piece),
+        9..=11 => piece = pairs::strewn(rng, &piece),
+        12 if rng.once_in(24) => piece = pairs::near_limit(rng),
         7 if rng.once_in(24) => {
             piece = rng.octets(rng.pick(&[MAX_DATA + 1, MAX_DATA + 2, 2 * MAX_DATA]));
         }
@@ -94,7 +97,8 @@ pub fn each_short() -> Vec<Vec<u8>> {
 }
 
 /// Every sequence of up to four segments that bear on repeats: DATA of two numbers, one of them of the longest payload and of one
-/// octet more, DACK, RESET, each report that is no frame but a long one, and at level 1 a DATA with flow control in it.
+/// octet more, DACK, RESET, each report that is no frame but a long one, a DATA with a bad pair in it, and at level 1 one with flow
+/// control.
 pub fn each_sequence() -> Vec<Vec<u8>> {
     let frame = |data: &[u8]| qaft::body(0, data);
     let segments = [
@@ -107,6 +111,7 @@ pub fn each_sequence() -> Vec<Vec<u8>> {
         vec![DATA | 4, 0x00],
         vec![DATA | 4, ESCAPE],
         vec![DATA | 4],
+        vec![ESCAPE, (DATA | 3) ^ 0x20, 0xBD],
         vec![DATA | 3, 0x11, 0xBD],
     ];
     let mut all = vec![vec![FLAG]];
@@ -121,11 +126,19 @@ pub fn each_sequence() -> Vec<Vec<u8>> {
     all
 }
 
+/// 7D before every octet, in short segments, and before some around the limits.
+pub fn each_pair() -> Vec<Vec<u8>> {
+    let segments = [pairs::each(), pairs::each_long(&pairs::PARTNERS)].concat();
+    let capture = |segment: &Vec<u8>| [&[FLAG], &segment[..], &[FLAG]].concat();
+    segments.iter().map(capture).collect()
+}
+
 /// A capture of which every count is over 0 at level 1.
 pub fn each_count() -> Vec<u8> {
     let frame = |data: &[u8]| [&qaft::body(0, data)[..], &[FLAG]].concat();
     let (data, dack) = (frame(&[DATA]), frame(&[DACK]));
     let others = [0x41, 0xBE, FLAG, 0x41, FLAG, 0x41, ESCAPE, FLAG];
+    let pair = [ESCAPE, 0x41, 0x9F, FLAG];
     let skipped = [0x11, 0x13, FLAG, 0x13, 0x41, 0xBF, FLAG];
     let long = [0; MAX_DATA + 2];
     [
@@ -134,6 +147,7 @@ pub fn each_count() -> Vec<u8> {
         &data,
         &dack,
         &others,
+        &pair,
         &skipped,
         &long,
         &[FLAG, 0x41],

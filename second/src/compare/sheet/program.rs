@@ -1,9 +1,11 @@
 //! The program line_sheet, run as a process over files of captures: its standard output is the second program's sheet, and its
 //! standard error names the files that it did not count.
-use super::super::flow;
 use super::super::process::{program, run, Run};
 use super::super::tally::{hex, Tally};
-use super::files::{across_reads, all_examples, each_refusal, set, Entry, Files, PIPE, READ};
+use super::super::{flow, pairs};
+use super::files::{
+    across_reads, all_examples, at_limits, each_refusal, set, Entry, Files, PIPE, READ,
+};
 use super::FULL;
 use second::qaft::FLAG;
 use second::rng::Rng;
@@ -57,6 +59,7 @@ fn expected(level: u8, entries: &[Entry], tally: &mut Tally) -> Seen {
                 tally.count(SEVERAL_READS, (capture.len() > READ).into());
                 tally.count(THROUGH_PIPE, (entry.file == PIPE).into());
                 flow::count(level, capture, tally);
+                pairs::count(level, capture, tally);
                 let number = sheet::tally(level, capture, line, &mut table);
                 tally.number(number);
                 number == 0
@@ -215,6 +218,7 @@ pub fn compare(rng: &Rng, count: u64, tally: &mut Tally) {
         tally.count(name, 0);
     }
     flow::came_up(&[0, 1], tally);
+    pairs::came_up(&[0, 1], tally);
     let files = Files::new();
     failures(&files, tally);
     for level in [0, 1] {
@@ -223,6 +227,7 @@ pub fn compare(rng: &Rng, count: u64, tally: &mut Tally) {
         list(all_examples());
         list(across_reads(rng, level, &files));
         list(each_refusal(rng, &files));
+        list(at_limits(&files));
     }
     let mut left = count;
     while left > 0 {
