@@ -1,5 +1,5 @@
 //! KISS: the frame writer and the chunk reader, with few octets that are escaped and with many.
-use crate::archive;
+use crate::archive::kiss as archive;
 use crate::frames::{self, ROOM};
 use crate::others::kiss as others;
 use crate::row::Row;
@@ -64,7 +64,7 @@ fn writer(what: &'static str, size: usize, once_in: usize) -> Row {
     let second = |p: &[u8], out: &mut [u8]| kiss::write(false, p, out).length;
     let line = frames::line(&[], &payloads, second);
     let ours = writing(&payloads, &line, |p, out| {
-        archive::kiss_write(false, p, out).length
+        archive::write(false, p, out).length
     });
     let row = Row::new(what, "octet", OCTETS / size * size, ours)
         .beside("second", writing(&payloads, &line, second))
@@ -109,7 +109,7 @@ fn reader(what: &'static str, size: usize, once_in: usize) -> Row {
         kiss::write(true, p, out).length
     });
     let fresh = State::default();
-    let ours = reading(&line, &payloads, archive::kiss_fresh(), archive::kiss_read);
+    let ours = reading(&line, &payloads, archive::fresh(), archive::read);
     let row = Row::new(what, "octet", line.len(), ours)
         .beside(
             "second",

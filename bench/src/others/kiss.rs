@@ -1,5 +1,5 @@
 //! KISS in C: plain C (c/plain_kiss.c), and direwolf where its source is there (c/direwolf_shim.c).
-use crate::archive::RawKissReader;
+use crate::archive::kiss::RawReader;
 use second::reader::Answer;
 
 #[repr(C)]
@@ -7,7 +7,7 @@ struct RawAnswer {
     number: u8,
     taken: usize,
     length: usize,
-    reader: RawKissReader,
+    reader: RawReader,
 }
 
 extern "C" {
@@ -19,7 +19,7 @@ extern "C" {
         room: usize,
     ) -> usize;
     fn plain_kiss_read(
-        reader: RawKissReader,
+        reader: RawReader,
         chunk: *const u8,
         length: usize,
         store: *mut u8,
@@ -32,7 +32,7 @@ pub fn write(at_flag: bool, payload: &[u8], out: &mut [u8]) -> usize {
 }
 
 /// Reads up to the first report. Any state is safe here: octets are stored by a count below the store's size.
-pub fn read(state: RawKissReader, chunk: &[u8], store: &mut [u8]) -> (RawKissReader, Answer) {
+pub fn read(state: RawReader, chunk: &[u8], store: &mut [u8]) -> (RawReader, Answer) {
     assert!(store.len() >= second::kiss::reader::STORE);
     let raw = unsafe { plain_kiss_read(state, chunk.as_ptr(), chunk.len(), store.as_mut_ptr()) };
     let answer = Answer {
