@@ -1,6 +1,6 @@
 -- Framing: the bodies of a line, as they stand between its flags. Cited by the theorems that a frame has one body. Assumes nothing.
 --
---   bodiesOf l   what stands between the flags of the line l, without skipped octets; nothing of it is no body
+--   bodiesOf l   what stands between the flags of the line l, without skipped octets; where nothing is left there is no body
 --   Octets l     every number of the line is an octet
 use Prim.Native.Nat.{ℕ, _<_}
 use mathlib.Core.Bool.{false}

@@ -33,21 +33,21 @@ canonical = record {
 }
 
 -- what the verdict of a frame with k payload octets tells
-record Told (d b : Bool) (n kind k : ℕ) : Type 0 where
+record IsFrame (d b : Bool) (n kind k : ℕ) : Type 0 where
   pub whole : (d || b) ≡ false
   pub typed : kind ≡ 0
   pub most : n ≤ maxSegment
   pub size : n ≡ k + 1
 
-told : (d b : Bool) (n kind k : ℕ) → verdict d b n kind ≡ Frame k → Told d b n kind k
-told d b n kind k =
-    verdict-cases (λ (p : Report). p ≡ Frame k → Told d b n kind k) d b n kind (λ p h e. absurd (subst NoFrame e h))
+frame-verdict : (d b : Bool) (n kind k : ℕ) → verdict d b n kind ≡ Frame k → IsFrame d b n kind k
+frame-verdict d b n kind k =
+    verdict-cases (λ (p : Report). p ≡ Frame k → IsFrame d b n kind k) d b n kind (λ p h e. absurd (subst NoFrame e h))
     (λ q t least most e. let z : n - 1 ≡ k = ap reportLength e in record { whole = q; typed = eqb-true kind 0 (sym (data-zero kind) ∙ t); most = most; size = omega arith })
 
 module _ (d : List ℕ) (u : Unescaped) (e : judged rules u ≡ framed d) where
-  tells : Told (u .dangling) (u .bad) (capped rules (length (u .octets))) (checkOf rules (u .octets)) (length d)
+  is-frame : IsFrame (u .dangling) (u .bad) (capped rules (length (u .octets))) (checkOf rules (u .octets)) (length d)
   unfolding judged
-  tells = told _ _ _ _ _ (ap (λ (r : Reported Report). r .report) e)
+  is-frame = frame-verdict _ _ _ _ _ (ap (λ (r : Reported Report). r .report) e)
 
   -- the type octet and the payload
   parts : (xs : List ℕ) → length xs ≡ length d + 1 → checkOf rules xs ≡ 0 → shown xs 1 (length d) ≡ d → xs ≡ typed d
@@ -63,10 +63,10 @@ module _ (d : List ℕ) (u : Unescaped) (e : judged rules u ≡ framed d) where
   shows = sym (ap (λ (r : Reported Report). shown (u .octets) 1 (reportLength (r .report))) e) ∙ ap (λ (r : Reported Report). r .octets) e
 
   typed-only : Octets (u .octets) → u .octets ≡ typed d
-  typed-only _ = parts (u .octets) (omega (arith, capped-within rules (length (u .octets)) (tells .most), tells .size)) (tells .typed) shows
+  typed-only _ = parts (u .octets) (omega (arith, capped-within rules (length (u .octets)) (is-frame .most), is-frame .size)) (is-frame .typed) shows
 
 pub faithful : Faithful rules typed framed
 faithful = record {
-  clean = λ d u e. (or-false-left (u .dangling) (u .bad) (tells d u e .whole), or-false-right (u .dangling) (u .bad) (tells d u e .whole));
+  clean = λ d u e. (or-false-left (u .dangling) (u .bad) (is-frame d u e .whole), or-false-right (u .dangling) (u .bad) (is-frame d u e .whole));
   same = typed-only;
 }

@@ -29,16 +29,16 @@ use Rattle.qaft_report.specs.declared.Report.the-variants.{Frame}
 use Rattle.qaft_rules.specs.Rules.{verdict, isBadPair, rules, framed}
 
 -- what the verdict of a frame with k data octets tells
-record Told (d b : Bool) (n s k : ℕ) : Type 0 where
+record IsFrame (d b : Bool) (n s k : ℕ) : Type 0 where
   pub dangling : d ≡ false
   pub bad : b ≡ false
   pub checked : s ≡ 0
   pub most : n ≤ maxSegment
   pub size : n ≡ k + 1
 
-told : (d b : Bool) (n s k : ℕ) → verdict d b n s ≡ Frame k → Told d b n s k
-told d b n s k =
-    verdict-cases (λ (p : Report). p ≡ Frame k → Told d b n s k) d b n s (λ p h e. absurd (subst NoFrame e h))
+frame-verdict : (d b : Bool) (n s k : ℕ) → verdict d b n s ≡ Frame k → IsFrame d b n s k
+frame-verdict d b n s k =
+    verdict-cases (λ (p : Report). p ≡ Frame k → IsFrame d b n s k) d b n s (λ p h e. absurd (subst NoFrame e h))
     (λ d b s least most e. let z : n - 1 ≡ k = ap reportLength e in record { dangling = d; bad = b; checked = s; most = most; size = omega arith })
 
 module _ (level : ℕ) where
@@ -57,13 +57,13 @@ module _ (level : ℕ) where
   }
 
   module _ (d : List ℕ) (u : Unescaped) (e : judged (rules level) u ≡ framed d) where
-    tells : Told (u .dangling) (u .bad) (capped (rules level) (length (u .octets))) (checkOf (rules level) (u .octets)) (length d)
+    is-frame : IsFrame (u .dangling) (u .bad) (capped (rules level) (length (u .octets))) (checkOf (rules level) (u .octets)) (length d)
     unfolding judged
-    tells = told _ _ _ _ _ (ap (λ (r : Reported Report). r .report) e)
+    is-frame = frame-verdict _ _ _ _ _ (ap (λ (r : Reported Report). r .report) e)
 
     -- one octet more than the data, which stand before it
     one-more : length (u .octets) ≡ length d + 1
-    one-more = omega (arith, capped-within (rules level) (length (u .octets)) (tells .most), tells .size)
+    one-more = omega (arith, capped-within (rules level) (length (u .octets)) (is-frame .most), is-frame .size)
 
     data-first : take (length d) (u .octets) ≡ d
     unfolding judged
@@ -82,8 +82,8 @@ module _ (level : ℕ) where
     checked : Octets (u .octets) → u .octets ≡ sealed d
     checked h =
         let c = getD (u .octets) (length d) 0 in
-        let z : sum (d ++ (c ∷ [])) % 256 ≡ 0 = ap (λ (xs : List ℕ). sum xs % 256) (sym split) ∙ sym (checkOf-sum level (u .octets)) ∙ tells .checked in
+        let z : sum (d ++ (c ∷ [])) % 256 ≡ 0 = ap (λ (xs : List ℕ). sum xs % 256) (sym split) ∙ sym (checkOf-sum level (u .octets)) ∙ is-frame .checked in
         split ∙ ap (λ (c : ℕ). d ++ (c ∷ [])) (check-only d c (octets-getD (u .octets) (length d) h) z)
 
   pub faithful : Faithful (rules level) sealed framed
-  faithful = record { clean = λ d u e. (tells d u e .dangling, tells d u e .bad); same = checked }
+  faithful = record { clean = λ d u e. (is-frame d u e .dangling, is-frame d u e .bad); same = checked }
