@@ -1,7 +1,7 @@
 // The loop over a chunk that the readers of all flagged, escaped lines share, up to the flag that closes a segment. A reader
 // hands over its rule, and judges the state that the flag found. What a rule says: specs/Rule; a call: specs/Scan; the laws of
-// it: the crate framing. Runs of octets that stand for themselves: run.rt; the running check: check.rt; what stands
-// behind an escape: pair.rt; octets where many are escaped: pairs.rt; states with a field set: states.rt.
+// it: the crate framing. Runs of octets that stand for themselves: run.rt; the running check: check.rt; octets
+// where many are escaped: pairs.rt; states with a field set: states.rt.
 ghost use mathlib.Core.Path.{_≡_};
 ghost use mathlib.Core.Bool.{not, _||_};
 ghost use Prim.Native.Nat.{_≤_};
@@ -12,7 +12,6 @@ ghost use Rattle.deframer.specs.Scan.{view, opened, joined, stored, inSe
 use escapes::Escapes;
 
 mod check;
-mod pair;
 mod pairs;
 mod run;
 mod states;
@@ -261,8 +260,8 @@ impl Rule {
             return y ^ mask;
         }
         let e = self.escapes;
-        if pair::is_partner(e, y) {
-            return pair::stands_for(e, y);
+        if e.is_partner(y) {
+            return e.stands_for(y);
         }
         y
     }
@@ -276,7 +275,7 @@ impl Rule {
         }
         if self.strict {
             let e = self.escapes;
-            if pair::is_partner(e, y) {
+            if e.is_partner(y) {
                 return false;
             }
             return true;

@@ -6,7 +6,7 @@ ghost use Prim.Native.Nat.{_+_, _≤_};
 ghost use lib.Dec.{eqb};
 ghost use lib.ListN.{length, drop};
 ghost use Rattle.common.specs.Plain.{plain, plainLength};
-ghost use Rattle.escapes.specs.Escapes.{isEscaped};
+ghost use Rattle.escapes.specs.Escapes.{isEscaped, isPartner, standsFor};
 
 // So many octets are looked at together, without a branch: one vector of the machine.
 const BLOCK: usize = 16;
@@ -35,6 +35,29 @@ impl Escapes {
             return two | ((x == self.third) | (x == self.fourth));
         }
         two
+    }
+
+    // Whether an octet behind the escape stands for one that is escaped, and for which.
+    pub fn is_partner(self, y: u8) -> bool
+        ensures { λ r. ⌜ r ≡ isPartner self y ⌝ }
+    {
+        (y == self.behind_flag)
+            | ((y == self.behind_escape)
+                | (self.others & ((y == self.behind_third) | (y == self.behind_fourth))))
+    }
+
+    pub fn stands_for(self, y: u8) -> u8
+        ensures { λ r. ⌜ r ≡ standsFor self y ⌝ }
+    {
+        if y == self.behind_flag {
+            self.flag
+        } else if y == self.behind_escape {
+            self.escape
+        } else if y == self.behind_third {
+            self.third
+        } else {
+            self.fourth
+        }
     }
 
     // Whether none of the octets is escaped. Each is looked for by itself: of that the compiler makes comparisons of whole

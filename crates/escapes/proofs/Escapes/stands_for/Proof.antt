@@ -1,8 +1,8 @@
--- `deframer::pair::stands_for` meets its contract: each return by the tests on its way. Assumes nothing.
+-- `escapes::Escapes::stands_for` meets its contract: each return by the tests on its way. Assumes nothing.
 use borrow.Author.Tests.{eq-eqb, ne-eqb}
-use Rattle.deframer.proofs.pair.stands_for.Statement.{statement}
-use Rattle.deframer.proofs.pair.stands_for.Tie as tie
+use Rattle.escapes.proofs.Escapes.stands_for.Statement.{statement}
+use Rattle.escapes.proofs.Escapes.stands_for.Tie as tie
 use Rattle.escapes.specs.Escapes.{standsFor}
 
 returns : tie.Need-returns
 unfolding standsFor
