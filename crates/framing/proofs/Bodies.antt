@@ -10,7 +10,7 @@ use Rattle.common.proofs.Bools.{either}
 use Rattle.common.proofs.Each.{Each}
 use Rattle.framing.proofs.Canonical.{NoFlag, Raw, segments-no-flag, unskipped-raw, escaped-unescape}
 use Rattle.framing.specs.Bodies.{Octets, ontoBodies, bodiesOfSegments, bodiesOf, Faithful}
-use Rattle.framing.specs.Reports.{Reported, Unescaped, atFront, afterFlag, segments, unskipped, unescape, judged, reportsOfOctets, reportsOfSegment, reportsOfSegments, reportsOf}
+use Rattle.framing.specs.Reports.{Reported, atFront, afterFlag, segments, unskipped, unescape, judged, reportsOfOctets, reportsOfSegment, reportsOfSegments, reportsOf}
 use Rattle.framing.specs.Rules.{Rules}
 use Rattle.framing.specs.Writing.{Writing, escapedOne, escaped, Canonical}
 

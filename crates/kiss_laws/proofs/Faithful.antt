@@ -1,6 +1,6 @@
 -- KISS's rules are canonical, and nothing but a payload behind its type octet is judged a frame. Assumes nothing.
 use Prim.Native.Nat.{ℕ, _+_, _-_, _≤_, _<_}
-use mathlib.Core.Bool.{Bool, true, false, _||_}
+use mathlib.Core.Bool.{Bool, false, _||_}
 use mathlib.Core.List.{List, [], _∷_}
 use mathlib.Core.Path.{_≡_, refl, sym, ap, ap₂, _∙_, subst}
 use native.Mathlib.Omega.{arith}
@@ -15,8 +15,8 @@ use Rattle.framing.specs.Step.{capped}
 use Rattle.framing.specs.Writing.{Canonical}
 use Rattle.kiss.proofs.Octets.{isEscaped-ind, good-escape, data-zero}
 use Rattle.kiss.specs.Frame.{typed}
-use Rattle.kiss.specs.Limits.{minSegment, maxSegment}
-use Rattle.kiss.specs.Octets.{isEscaped, isData, writing}
+use Rattle.kiss.specs.Limits.{maxSegment}
+use Rattle.kiss.specs.Octets.{isEscaped, writing}
 use Rattle.kiss_laws.proofs.Rules.{NoFrame, verdict-cases, kept}
 use Rattle.kiss_report.specs.Answer.{reportLength}
 use Rattle.kiss_report.specs.declared.Report.{Report}

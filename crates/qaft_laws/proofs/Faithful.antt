@@ -3,10 +3,8 @@ use Prim.Native.Nat.{ℕ, suc, _+_, _-_, _%_, _≤_, _<_}
 use mathlib.Core.Bool.{Bool, true, false}
 use mathlib.Core.List.{List, [], _∷_, _++_}
 use mathlib.Core.Path.{_≡_, refl, sym, ap, _∙_, subst}
-use native.Mathlib.Numerals.{add-one}
 use native.Mathlib.Omega.{arith}
 use borrow.Author.Tests.{le-leb, not-false}
-use lib.Dec.{leb}
 use lib.ListN.{length, getD, take}
 use lib.Seq.{take-all, take-suc}
 use Rattle.framing.proofs.Bodies.{octets-getD}
@@ -18,10 +16,9 @@ use Rattle.framing.specs.Writing.{Canonical}
 use Rattle.octets.specs.Sum.{sum}
 use Rattle.qaft.proofs.Check.{check-only}
 use Rattle.qaft.proofs.Escape.{isEscaped-ind, masked-twice}
-use Rattle.qaft.specs.Check.{checkOctet}
 use Rattle.qaft.specs.Escape.{masked, isEscaped, writing}
 use Rattle.qaft.specs.Frame.{sealed}
-use Rattle.qaft.specs.Limits.{minSegment, maxSegment}
+use Rattle.qaft.specs.Limits.{maxSegment}
 use Rattle.qaft_laws.proofs.Rules.{NoFrame, verdict-cases, checkOf-sum}
 use Rattle.qaft_report.specs.Answer.{reportLength}
 use Rattle.qaft_report.specs.declared.Report.{Report}

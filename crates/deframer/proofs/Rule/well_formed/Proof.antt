@@ -1,6 +1,6 @@
 -- `deframer::Rule::well_formed` meets its contract: each return by the tests on its way. Assumes nothing.
 use mathlib.Core.Bool.{Bool, true, false, not, _&&_, _||_}
-use mathlib.Core.Path.{_≡_, refl, sym, _∙_}
+use mathlib.Core.Path.{_≡_, refl, sym}
 use borrow.Author.Needs.{needs}
 use borrow.Author.Tests.{lt-ltb, le-ltb, eq-eqb, ne-eqb}
 use Rattle.deframer.proofs.Rule.well_formed.Statement.{statement}

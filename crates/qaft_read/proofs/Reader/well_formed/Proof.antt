@@ -1,5 +1,5 @@
 -- `qaft_read::Reader::well_formed` meets its contract: what the shared rule calls ill formed is 5. Assumes nothing.
-use mathlib.Core.Bool.{Bool, not}
+use mathlib.Core.Bool.{not}
 use mathlib.Core.Path.{_≡_, refl, ap, ap₂, _∙_}
 use Rattle.deframer.specs.Rule.{rulesOf}
 use Rattle.deframer.specs.Scan.{view}
