@@ -4,46 +4,38 @@ use mathlib.Core.Bool.{Bool, true, false}
 use mathlib.Core.List.{List, [], _∷_, _++_, map}
 use mathlib.Core.Path.{_≡_, refl, sym, ap, ap₂, _∙_, subst}
 use native.Mathlib.Omega.{arith}
-use lib.Dec.{eqb}
 use lib.ListN.{getD}
-use Rattle.common.proofs.Bools.{either}
-use Rattle.common.proofs.Each.{Each}
-use Rattle.framing.proofs.Canonical.{NoFlag, Raw, segments-no-flag, unskipped-raw, escaped-unescape}
+use Rattle.common.proofs.Each.{Each, each-map}
+use Rattle.framing.proofs.Canonical.{NoFlag, Raw, afterFlag-each, segments-each, unskipped-each, segments-no-flag, unskipped-raw, escaped-unescape}
 use Rattle.framing.specs.Bodies.{Octets, ontoBodies, bodiesOfSegments, bodiesOf, Faithful}
-use Rattle.framing.specs.Reports.{Reported, atFront, afterFlag, segments, unskipped, unescape, judged, reportsOfOctets, reportsOfSegment, reportsOfSegments, reportsOf}
+use Rattle.framing.specs.Reports.{Reported, afterFlag, segments, unskipped, unescape, judged, reportsOfOctets, reportsOfSegment, reportsOfSegments, reportsOf}
 use Rattle.framing.specs.Rules.{Rules}
 use Rattle.framing.specs.Writing.{Writing, escapedOne, escaped, Canonical}
 
--- ---- octets stay octets
+-- ---- octets, one by one
+abbrev Octet : ℕ → Type 0
+Octet x = x < 256
+
+octets-each : (xs : List ℕ) → Octets xs → Each Octet xs
+octets-each [] h = tt
+octets-each (x ∷ xs) h = (h .0, octets-each xs (h .1))
+
+each-octets : (xs : List ℕ) → Each Octet xs → Octets xs
+each-octets [] h = tt
+each-octets (x ∷ xs) h = (h .0, each-octets xs (h .1))
+
 pub octets-getD : (xs : List ℕ) (i : ℕ) → Octets xs → getD xs i 0 < 256
 octets-getD [] i h = omega arith
 octets-getD (x ∷ xs) zero h = h .0
 octets-getD (x ∷ xs) (suc i) h = octets-getD xs i (h .1)
 
 module _ {A R : Type 0} (rules : Rules A R) where
-  afterFlag-octets : (l : List ℕ) → Octets l → Octets (afterFlag rules l)
-  unfolding afterFlag
-  afterFlag-octets [] h = tt
-  afterFlag-octets (x ∷ xs) h = either Octets (eqb x (rules .flag)) (λ _. h .1) (λ _. afterFlag-octets xs (h .1))
+  -- those of a line are those of its segments, skipped ones removed
+  segments-octets : (l : List ℕ) → Octets l → Each (Each Octet) (segments rules (afterFlag rules l))
+  segments-octets l h = segments-each rules Octet (afterFlag rules l) (each-map Octet _ (λ x o _. o) (afterFlag rules l) (afterFlag-each rules Octet l (octets-each l h)))
 
-  atFront-octets : (x : ℕ) (ss : List (List ℕ)) → Octets (x ∷ []) → Each Octets ss → Each Octets (atFront x ss)
-  unfolding atFront
-  atFront-octets x [] e h = tt
-  atFront-octets x (s ∷ ss) e h = ((e .0, h .0), h .1)
-
-  segments-octets : (l : List ℕ) → Octets l → Each Octets (segments rules l)
-  unfolding segments
-  segments-octets [] h = tt
-  segments-octets (x ∷ xs) h =
-      let ih = segments-octets xs (h .1) in
-      either (Each Octets) (eqb x (rules .flag)) (λ _. (tt, ih)) (λ _. atFront-octets x (segments rules xs) (h .0, tt) ih)
-
-  unskipped-octets : (s : List ℕ) → Octets s → Octets (unskipped rules s)
-  unfolding unskipped
-  unskipped-octets [] h = tt
-  unskipped-octets (x ∷ s) h =
-      let ih = unskipped-octets s (h .1) in
-      either Octets (rules .skips x) (λ _. ih) (λ _. (h .0, ih))
+  unskipped-octets : (s : List ℕ) → Each Octet s → Each Octet (unskipped rules s)
+  unskipped-octets = unskipped-each rules Octet Octet (λ x _ o. o)
 
   -- where nothing is skipped
   pub unskipped-none : ((x : ℕ) → rules .skips x ≡ false) → (s : List ℕ) → unskipped rules s ≡ s
@@ -69,12 +61,12 @@ module _ {A R : Type 0} (rules : Rules A R) where
 
 -- ---- what is written in octets is written of octets
 module _ {A R : Type 0} (rules : Rules A R) (writing : Writing) (canonical : Canonical rules writing) where
-  one-octets : (x : ℕ) (ys : List ℕ) (b : Bool) → writing .escapes x ≡ b → Octets (escapedOne writing x ++ ys) → (x < 256) × Octets ys
+  one-octets : (x : ℕ) (ys : List ℕ) (b : Bool) → writing .escapes x ≡ b → Each Octet (escapedOne writing x ++ ys) → Octet x × Each Octet ys
   unfolding escapedOne
   one-octets x ys true e = rw e (λ h. (canonical .octet x e, h .1 .1))
   one-octets x ys false e = rw e (λ h. h)
 
-  escaped-octets : (xs : List ℕ) → Octets (escaped writing xs) → Octets xs
+  escaped-octets : (xs : List ℕ) → Each Octet (escaped writing xs) → Each Octet xs
   unfolding escaped
   escaped-octets [] h = tt
   escaped-octets (x ∷ xs) h = let k = one-octets x (escaped writing xs) (writing .escapes x) refl h in (k .0, escaped-octets xs (k .1))
@@ -85,17 +77,17 @@ module _ {A R : Type 0} (rules : Rules A R) (writing : Writing) (canonical : Can
     abbrev pub Written : List ℕ → Type 0
     Written b = (d : D) → judged rules (unescape rules b) ≡ frame d → b ≡ escaped writing (body d)
 
-    written : (b : List ℕ) → Each (Raw rules) b → Octets b → Written b
+    written : (b : List ℕ) → Each (Raw rules) b → Each Octet b → Written b
     written b raw h d e =
         let u = unescape rules b in
         let c = faithful .clean d u e in
         let s : escaped writing (u .octets) ≡ b = escaped-unescape rules writing canonical b raw (c .0) (c .1) in
-        sym s ∙ ap (escaped writing) (faithful .same d u e (escaped-octets (u .octets) (subst Octets (sym s) h)))
+        sym s ∙ ap (escaped writing) (faithful .same d u e (each-octets (u .octets) (escaped-octets (u .octets) (subst (Each Octet) (sym s) h))))
 
     -- as a segment, in which skipped octets may stand
     pub segment-written : (s : List ℕ) → NoFlag rules s → Octets s → (d : D) → reportsOfSegment rules s ≡ frame d ∷ [] → unskipped rules s ≡ escaped writing (body d)
     unfolding reportsOfSegment reportsOfOctets
-    segment-written s f h d e = go (unskipped rules s) (written (unskipped rules s) (unskipped-raw rules s f) (unskipped-octets rules s h)) e
+    segment-written s f h d e = go (unskipped rules s) (written (unskipped rules s) (unskipped-raw rules s f) (unskipped-octets rules s (octets-each s h))) e
       where
         go : (b : List ℕ) → Written b → reportsOfOctets rules b ≡ frame d ∷ [] → b ≡ escaped writing (body d)
         go [] w e = cc
@@ -107,7 +99,7 @@ module _ {A R : Type 0} (rules : Rules A R) (writing : Writing) (canonical : Can
     onto-written [] bs w ws = ws
     onto-written (x ∷ b) bs w ws = (w, ws)
 
-    segments-written : (ss : List (List ℕ)) → Each (NoFlag rules) ss → Each Octets ss → Each Written (bodiesOfSegments rules ss)
+    segments-written : (ss : List (List ℕ)) → Each (NoFlag rules) ss → Each (Each Octet) ss → Each Written (bodiesOfSegments rules ss)
     unfolding bodiesOfSegments
     segments-written [] f h = tt
     segments-written (s ∷ ss) f h =
@@ -118,7 +110,7 @@ module _ {A R : Type 0} (rules : Rules A R) (writing : Writing) (canonical : Can
     unfolding bodiesOf
     bodies-written l h =
         let a = afterFlag rules l in
-        segments-written (segments rules a) (segments-no-flag rules a) (segments-octets rules a (afterFlag-octets rules l h))
+        segments-written (segments rules a) (segments-no-flag rules a) (segments-octets rules l h)
 
     -- a line that reports frames alone has the bodies that are written for them
     all-written : (bs : List (List ℕ)) (ds : List D) → Each Written bs → map (λ (b : List ℕ). judged rules (unescape rules b)) bs ≡ map frame ds

@@ -8,9 +8,9 @@ use native.Mathlib.Omega.{arith}
 use borrow.Author.Tests.{eqb-true}
 use lib.Dec.{eqb}
 use Rattle.common.proofs.Bools.{either, or-false-left, or-false-right}
-use Rattle.common.proofs.Each.{Each}
+use Rattle.common.proofs.Each.{Each, each-all}
 use Rattle.framing.proofs.Unescape.{unescape-pair, unescape-plain}
-use Rattle.framing.specs.Reports.{atFront, segments, unskipped, onto, ontoPair, unescape}
+use Rattle.framing.specs.Reports.{atFront, afterFlag, segments, unskipped, onto, ontoPair, unescape}
 use Rattle.framing.specs.Rules.{Rules}
 use Rattle.framing.specs.Writing.{Writing, escapedOne, escaped, Canonical}
 
@@ -19,29 +19,43 @@ module _ {A R : Type 0} (rules : Rules A R) where
   abbrev pub NoFlag : List ℕ → Type 0
   NoFlag s = Each (λ (x : ℕ). eqb x (rules .flag) ≡ false) s
 
-  atFront-no-flag : (x : ℕ) (ss : List (List ℕ)) → eqb x (rules .flag) ≡ false → Each NoFlag ss → Each NoFlag (atFront x ss)
-  unfolding atFront
-  atFront-no-flag x [] e h = tt
-  atFront-no-flag x (s ∷ ss) e h = ((e, h .0), h .1)
+  -- what holds of the octets of a line holds of those behind its first flag
+  pub afterFlag-each : (P : ℕ → Type 0) (l : List ℕ) → Each P l → Each P (afterFlag rules l)
+  unfolding afterFlag
+  afterFlag-each P [] h = tt
+  afterFlag-each P (x ∷ xs) h = either (Each P) (eqb x (rules .flag)) (λ _. h .1) (λ _. afterFlag-each P xs (h .1))
 
-  -- a segment holds none
-  pub segments-no-flag : (l : List ℕ) → Each NoFlag (segments rules l)
+  -- of those of its segments, where it need not hold of flags
+  atFront-each : (P : ℕ → Type 0) (x : ℕ) (ss : List (List ℕ)) → P x → Each (Each P) ss → Each (Each P) (atFront x ss)
+  unfolding atFront
+  atFront-each P x [] e h = tt
+  atFront-each P x (s ∷ ss) e h = ((e, h .0), h .1)
+
+  pub segments-each : (P : ℕ → Type 0) (l : List ℕ) → Each (λ (x : ℕ). eqb x (rules .flag) ≡ false → P x) l → Each (Each P) (segments rules l)
   unfolding segments
-  segments-no-flag [] = tt
-  segments-no-flag (x ∷ xs) =
-      let ih = segments-no-flag xs in
-      either (Each NoFlag) (eqb x (rules .flag)) (λ _. (tt, ih)) (λ e. atFront-no-flag x (segments rules xs) e ih)
+  segments-each P [] h = tt
+  segments-each P (x ∷ xs) h =
+      let ih = segments-each P xs (h .1) in
+      either (Each (Each P)) (eqb x (rules .flag)) (λ _. (tt, ih)) (λ e. atFront-each P x (segments rules xs) (h .0 e) ih)
+
+  -- and of those that are not skipped
+  pub unskipped-each : (P Q : ℕ → Type 0) → ((x : ℕ) → rules .skips x ≡ false → P x → Q x) → (s : List ℕ) → Each P s → Each Q (unskipped rules s)
+  unfolding unskipped
+  unskipped-each P Q f [] h = tt
+  unskipped-each P Q f (x ∷ s) h =
+      let ih = unskipped-each P Q f s (h .1) in
+      either (Each Q) (rules .skips x) (λ _. ih) (λ e. (f x e (h .0), ih))
+
+  -- a segment holds no flag
+  pub segments-no-flag : (l : List ℕ) → Each NoFlag (segments rules l)
+  segments-no-flag l = segments-each (λ (x : ℕ). eqb x (rules .flag) ≡ false) l (each-all _ (λ x e. e) l)
 
   -- an octet of a segment that is not skipped
   abbrev pub Raw : ℕ → Type 0
   Raw x = (eqb x (rules .flag) ≡ false) × (rules .skips x ≡ false)
 
   pub unskipped-raw : (s : List ℕ) → NoFlag s → Each Raw (unskipped rules s)
-  unfolding unskipped
-  unskipped-raw [] h = tt
-  unskipped-raw (x ∷ s) h =
-      let ih = unskipped-raw s (h .1) in
-      either (Each Raw) (rules .skips x) (λ _. ih) (λ e. ((h .0, e), ih))
+  unskipped-raw = unskipped-each (λ (x : ℕ). eqb x (rules .flag) ≡ false) Raw (λ x e f. (f, e))
 
   module _ (writing : Writing) (canonical : Canonical rules writing) where
     -- what is undone, written again, is what was read
