@@ -172,7 +172,8 @@ HASFANDUR_MUST_USE hasfandur_qaft_reader hasfandur_qaft_fresh(uint8_t level);
  *
  * A pair is good only if it stands for an octet that the level escapes: 7D 5D and 7D 5E, at level 1 also 7D 31 and 7D 33. The octet of a
  * bad pair is counted, summed and stored like any other, and the segment is reported as HASFANDUR_QAFT_BAD_PAIR, unless a 7D stands before
- * its flag. So what is reported as a frame is, raw flow control aside, octet for octet what hasfandur_qaft_write makes of its data.
+ * its flag. So, from a fresh state on and with the buffer left alone between calls, what stands between the flags of a reported frame is, raw
+ * flow control aside, octet for octet what hasfandur_qaft_write puts between the flags for its data.
  *
  * Refusals, the first that applies: HASFANDUR_QAFT_BAD_LEVEL, _BUFFER_TOO_SMALL (under HASFANDUR_QAFT_MAX_SEGMENT octets),
  * _BAD_STATE (a state that no line leads to). A refusal takes nothing, writes nothing, and gives the very state back that came.
