@@ -18,6 +18,7 @@ use Rattle.dlc_table.specs.Events.{Effect, effect, refuse, cleared, stateOf, wi
 use Rattle.dlc_table.specs.Events.{queued, isOpen, packetStep, startOf, timerOf, payloadOf, arrivalOf}
 use Rattle.dlc_table.proofs.Rows.{taken, other, data-open}
 use Rattle.dlc.specs.Limits.{modulus, advance, slots, maxPayload, replySize, resetPacket, resetAckPacket, dataPackets}
+use Rattle.dlc_queue.proofs.Limits.{slots-below}
 use Rattle.dlc.proofs.Values.{Fits, fits-fresh, fits-rebuilt}
 use Rattle.dlc_run.specs.Replies.{Octets, Packets}
 use Rattle.window.specs.Packets.{Packet, dataPdu, dackPdu, numbered}
@@ -30,7 +31,7 @@ use Rattle.dlc_pair.proofs.Simulates.{tooShort, passes, offered, timedO
 
 -- the rules of the sliding window are kept: the slots are fewer than the numbers, and a DACK's distance is what it acknowledges
 pub lawful : Lawful rules
-lawful = record { below = omega arith; distance = distance-dackNumber }
+lawful = record { below = slots-below; distance = distance-dackNumber }
 
 -- the model of an open link that stands where an end of the packet system does
 abbrev pub modelOf : Peer → Model

@@ -10,6 +10,5 @@ pub mod Demand3
 pub mod Existence
 pub mod Progress
 pub mod Theorems
-pub mod Worked
 pub mod Opening
 pub mod Links

@@ -1,23 +1,24 @@
 -- A worked run with losses, repeats, refusals and a restart of the numbers, and a run that meets the bound with equality. What is said holds of
 -- EVERY history of these events; the packet system's run is computed. Assumes nothing.
-use Prim.Native.Nat.{ℕ, zero, suc, _+_, _-_, _*_, _%_}
+use Prim.Native.Nat.{ℕ, _+_, _-_, _*_, _%_}
 use mathlib.Core.Path.{_≡_, refl, sym, ap, _∙_}
 use mathlib.Core.List.{List, [], _∷_, _++_, map}
 use lib.Dec.{T}
 use lib.ListN.{length, replicate}
 use Rattle.dlc_table.specs.Model.{Model, opened}
 use Rattle.dlc.specs.Limits.{modulus, slots, maxPayload, replySize}
-use Rattle.dlc_run.specs.Replies.{Octets, Packets}
+use Rattle.dlc_run.specs.Replies.{Octets}
 use Rattle.window.specs.Sides.{Side, left, right}
 use Rattle.window.specs.Ends.{Rules, End as Peer}
 use Rattle.window.specs.Events.{fresh, start as packetStart}
 use Rattle.window.proofs.Deciding.{timerWaits, timerWaits-true}
 use Rattle.dlc_pair.specs.World.{dataSent, initial}
-use Rattle.dlc_pair.specs.History.{Act, payload, timer, arrival, loss, Event, after, History, final, TimerWaits}
+use Rattle.dlc_pair.specs.History.{payload, timer, arrival, loss, Event, after, History, final, TimerWaits}
 use Rattle.dlc_pair.proofs.Relation.{BothFollow, follow-initial}
 use Rattle.dlc_pair.proofs.Simulates.{Simulates}
 use Rattle.dlc_pair.proofs.Effects.{simulates}
 use Rattle.dlc_pair.proofs.Runs.{eventOf, runOf, run-follows, timerWaits-back}
+use Rattle.dlc_worked.specs.Script.{at, payloadsFrom, offered, arrivals}
 
 -- ---- at an empty line an arrival and a loss change nothing; L is a type of links, v its view
 pub arrival-nothing : {L : Type 0} (v : L → Model) (l l′ : L) (before : Octets) → after v (arrival before) (initial l l′) tt ≡ initial l l′
@@ -39,37 +40,23 @@ module _ {rules : Rules} {modelOf : Peer → Model} (table : Simulates rules mod
 abbrev buffer : Octets
 buffer = replicate replySize 0
 
-abbrev at : Side → Act → Event
-at d a = record { side = d; act = a }
-
--- payloads of one octet: n, n + 1, ..
-abbrev pub payloadsFrom : ℕ → ℕ → Packets
-payloadsFrom zero n = []
-payloadsFrom (suc k) n = (n ∷ []) ∷ payloadsFrom k (suc n)
-
-abbrev offered : Packets → List Event
-offered ps = map (λ (p : Octets). at left (payload p buffer)) ps
-
-abbrev arrivals : ℕ → Side → List Event
-arrivals n d = replicate n (at d (arrival buffer))
-
 -- as many payloads as there are slots are offered, each sent as it is accepted, and delivered and acknowledged; no timer is called
 abbrev wholeRound : ℕ → List Event
-wholeRound n = offered (payloadsFrom slots n) ++ arrivals slots right ++ arrivals slots left
+wholeRound n = offered buffer (payloadsFrom slots n) ++ arrivals buffer slots right ++ arrivals buffer slots left
 
 -- the queue is filled, each payload sent as it is accepted; then 22, 26, 21 are answered and an arrival finds nothing. The third is lost; two are
 -- delivered. With the line drained a timer call answers 26; the next sends those that are left again, and the first is refused by a short buffer:
 -- 26, lost. They are sent once more and delivered, and a last timer call answers 24
 abbrev lossyRound : List Event
 lossyRound =
-    offered (payloadsFrom slots 1)
+    offered buffer (payloadsFrom slots 1)
     ++ (at left (payload (9 ∷ []) buffer) ∷ at left (payload (9 ∷ []) []) ∷ [])
     ++ (at left (payload (replicate (maxPayload + 1) 9) buffer) ∷ at left (arrival buffer) ∷ at left (loss 2) ∷ at left (loss 50) ∷ [])
-    ++ arrivals (slots - 1) right ++ arrivals (slots - 1) left
+    ++ arrivals buffer (slots - 1) right ++ arrivals buffer (slots - 1) left
     ++ (at left (timer []) ∷ at left (timer buffer) ∷ at right (arrival []) ∷ [])
-    ++ arrivals (slots - 3) right ++ arrivals (slots - 3) left
+    ++ arrivals buffer (slots - 3) right ++ arrivals buffer (slots - 3) left
     ++ (at left (timer buffer) ∷ [])
-    ++ arrivals (slots - 2) right ++ arrivals (slots - 2) left
+    ++ arrivals buffer (slots - 2) right ++ arrivals buffer (slots - 2) left
     ++ (at left (timer buffer) ∷ [])
 
 abbrev pub workedEvents : List Event
@@ -108,9 +95,9 @@ worked v l l′ e e′ h =
 -- the bound is met, so it cannot be lowered
 abbrev pub tightEvents : List Event
 tightEvents =
-    offered (payloadsFrom slots 1)
+    offered buffer (payloadsFrom slots 1)
     ++ (at left (loss 0) ∷ [])
-    ++ arrivals (slots - 1) right ++ arrivals (slots - 1) left
+    ++ arrivals buffer (slots - 1) right ++ arrivals buffer (slots - 1) left
     ++ (at left (timer buffer) ∷ [])
 
 pub record Tight {L : Type 0} (v : L → Model) (l l′ : L) (h : History v tightEvents (initial l l′)) : Type 0 where
