@@ -12,3 +12,4 @@ pub mod Progress
 pub mod Theorems
 pub mod Opening
 pub mod Links
+pub mod ByTheTable

@@ -1,0 +1,100 @@
+-- The world of demand 3 is the step table's, of as many places as the queue has slots: whatever the calls of a history gave back under their contracts,
+-- what is seen of the world after it is the table's run of its events (specs/TableRun). So demand 3 speaks of the table, too. Assumes nothing.
+use Prim.Native.Nat.{ℕ}
+use mathlib.Core.Path.{_≡_, refl, ap, subst, _∙_}
+use mathlib.Core.Option.{Option, none, some}
+use mathlib.Core.List.{List, [], _∷_, IsPrefix}
+use lib.ListN.{getElem?}
+use Rattle.dlc_table.specs.Model.{Model, opened}
+use Rattle.dlc_table.specs.Events.{Effect}
+use Rattle.dlc_answer.specs.declared.Answer.{Answer}
+use Rattle.dlc.specs.Limits.{slots}
+use Rattle.dlc.specs.View.{view}
+use Rattle.dlc.specs.Calls.{answerOf, Meets}
+use Rattle.dlc_run.specs.Replies.{Octets, Packets, isData, isDack, acceptedBy, deliveredBy}
+use Rattle.window.specs.Sides.{Side, left, right, mirror}
+use Rattle.dlc_pair.specs.World.{End, World, initial}
+use Rattle.dlc_pair.specs.History.{Act, payload, timer, start, arrival, loss, Event, GivenFront, Given, GivenAt, called, lostBy, arrived, lostAt, after, afterAt}
+use Rattle.dlc_pair.specs.History.{History, final}
+use Rattle.dlc_pair.specs.TableRun.{tableCalled, tableArrived, tableStep, tableStepAt, tableRun, InOrder}
+use Rattle.dlc_pair.proofs.Links.{open-link, history-exists-link, demand-three-link}
+
+-- what is seen of an end: the model of its link, and all else
+abbrev pub seenEnd : {L : Type 0} → (L → Model) → End L → End Model
+seenEnd v e = record {
+  link = v (e .link);
+  line = e .line;
+  copied = e .copied;
+  accepted = e .accepted;
+  delivered = e .delivered;
+  lost = e .lost;
+  answers = e .answers;
+}
+
+abbrev pub seen : {L : Type 0} → (L → Model) → World L → World Model
+seen v w = record { left = seenEnd v (w .left); right = seenEnd v (w .right) }
+
+module _ {L : Type 0} (v : L → Model) where
+  -- ---- a call; what its caller makes of the answer is made of the table's
+  module _ (e : End L) (accepted delivered : Answer → Packets) (lost : Answer → ℕ) where
+    call-seen : {d : Effect} {before later : Octets} {r : L} {a : Answer} → Meets v d (e .link) before later r a
+        → seenEnd v (called r a later (accepted a) (delivered a) (lost a) e)
+        ≡ tableCalled d before (accepted (answerOf d)) (delivered (answerOf d)) (lost (answerOf d)) (seenEnd v e)
+    call-seen m = λ i.
+        let a = m .returns .answer i in
+        called (m .returns .link i) a (m .reply i) (accepted a) (delivered a) (lost a) (seenEnd v e)
+
+  -- ---- an event at the left end
+  arrived-seen : (l : Packets) (before : Octets) (w : World L) (g : GivenFront v l (w .left) before)
+      → seen v (arrived v l before w g) ≡ tableArrived slots l before (seen v w)
+  arrived-seen [] before w g = refl
+  arrived-seen (q ∷ qs) before w g =
+      let m = g .meets in
+      λ i. record {
+        left = call-seen (w .left) (λ _. []) (deliveredBy q) (lostBy (isDack q)) m i;
+        right = seenEnd v (record {
+          link = w .right .link;
+          line = qs;
+          copied = w .right .copied;
+          accepted = w .right .accepted;
+          delivered = w .right .delivered;
+          lost = Prim.Native.Nat._+_ (w .right .lost) (lostBy (isData q) (m .returns .answer i));
+          answers = w .right .answers;
+        });
+      }
+
+  lost-seen : (n : ℕ) (q : Option Octets) (w : World L) → seen v (lostAt n q w) ≡ lostAt n q (seen v w)
+  lost-seen n none w = refl
+  lost-seen n (some q) w = refl
+
+  step-by-the-table : (a : Act) (w : World L) (g : Given v a w) → seen v (after v a w g) ≡ tableStep slots a (seen v w)
+  step-by-the-table (payload p before) w g = λ i. record {
+    left = call-seen (w .left) (acceptedBy p) (λ _. []) (λ _. 0) (g .meets) i;
+    right = seenEnd v (w .right);
+  }
+  step-by-the-table (timer before) w g = λ i. record { left = call-seen (w .left) (λ _. []) (λ _. []) (λ _. 0) (g .meets) i; right = seenEnd v (w .right) }
+  step-by-the-table (start before) w g = λ i. record { left = call-seen (w .left) (λ _. []) (λ _. []) (λ _. 0) (g .meets) i; right = seenEnd v (w .right) }
+  step-by-the-table (arrival before) w g = arrived-seen (w .right .line) before w g
+  step-by-the-table (loss n) w g = lost-seen n (getElem? (w .left .line) n) w
+
+  stepAt-by-the-table : (d : Side) (a : Act) (w : World L) (g : GivenAt v d a w) → seen v (afterAt v d a w g) ≡ tableStepAt slots d a (seen v w)
+  stepAt-by-the-table left a w g = step-by-the-table a w g
+  stepAt-by-the-table right a w g = ap mirror (step-by-the-table a (mirror w) g)
+
+  -- ---- a list of them
+  pub final-by-the-table : (es : List Event) (w : World L) (h : History v es w) → seen v (final v es w h) ≡ tableRun slots es (seen v w)
+  final-by-the-table [] w h = refl
+  final-by-the-table (e ∷ es) w h =
+      final-by-the-table es (afterAt v (e .side) (e .act) w (h .0)) (h .1) ∙ ap (tableRun slots es) (stepAt-by-the-table (e .side) (e .act) w (h .0))
+
+-- demand 3's first part, of the table by itself
+pub in-order : InOrder slots
+in-order es =
+    let o = open-link in
+    let h = history-exists-link (o .0) (o .0) (o .1) (o .1) es in
+    let c = demand-three-link (o .0) (o .0) (o .1) (o .1) es h in
+    let e : seen view (final view es (initial (o .0) (o .0)) h) ≡ tableRun slots es (initial opened opened)
+    = final-by-the-table view es (initial (o .0) (o .0)) h ∙ ap (λ (m : Model). tableRun slots es (initial m m)) (o .1) in (
+      subst (λ (w : World Model). IsPrefix (w .right .delivered) (w .left .accepted)) e (c .leftToRight .prefix),
+      subst (λ (w : World Model). IsPrefix (w .left .delivered) (w .right .accepted)) e (c .rightToLeft .prefix),
+    )

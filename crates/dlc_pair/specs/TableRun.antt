@@ -1,0 +1,58 @@
+-- Two ends whose calls do just what the step table says, over the limit of places. Cited by proofs/ByTheTable, where the histories of demand 3 are
+-- such runs, and by whoever asks what another limit would do (dlc_worked). Assumes nothing.
+--
+--   tableStep limit a w    the world after an event at the left end
+--   tableRun limit es w    the world after a list of events
+--   InOrder limit          whether from two open ends, whatever the events, each end delivers an initial part of what was accepted at the other
+--
+-- The world is that of demand 3, with models for its links: a model has no free slots, so nothing is left open and a list of events has one run.
+use Prim.Native.Nat.{ℕ}
+use mathlib.Core.List.{List, [], _∷_, flatten, IsPrefix}
+use lib.ListN.{length, getElem?}
+use Rattle.common.specs.Buffer.{withFront}
+use Rattle.dlc_table.specs.Model.{Model, opened}
+use Rattle.dlc_table.specs.Events.{Effect, startOf, timerOf, payloadOf, arrivalOf}
+use Rattle.dlc.specs.Calls.{answerOf}
+use Rattle.dlc_run.specs.Replies.{Octets, Packets, isData, isDack, acceptedBy, deliveredBy}
+use Rattle.window.specs.Sides.{Side, left, right, mirror}
+use Rattle.dlc_pair.specs.World.{End, World, initial}
+use Rattle.dlc_pair.specs.History.{Act, payload, timer, start, arrival, loss, Event, called, relined, lostBy, lostAt}
+
+-- an end after a call with this effect: its link, its answer, and the reply buffer with the packets at its front
+abbrev pub tableCalled : Effect → Octets → Packets → Packets → ℕ → End Model → End Model
+tableCalled d before accepted delivered n e = called (d .after) (answerOf d) (withFront (flatten (d .packets)) before) accepted delivered n e
+
+module _ (limit : ℕ) where
+  -- an arrival at the left end, by the right end's line
+  abbrev pub tableArrived : Packets → Octets → World Model → World Model
+  tableArrived [] before w = w
+  tableArrived (q ∷ qs) before w =
+      let d = arrivalOf limit (w .left .link) q (length before) in
+      record {
+        left = tableCalled d before [] (deliveredBy q (answerOf d)) (lostBy (isDack q) (answerOf d)) (w .left);
+        right = relined qs (lostBy (isData q) (answerOf d)) (w .right);
+      }
+
+  -- an event at the left end
+  abbrev pub tableStep : Act → World Model → World Model
+  tableStep (payload p before) w =
+      let d = payloadOf limit (w .left .link) p (length before) in
+      record { left = tableCalled d before (acceptedBy p (answerOf d)) [] 0 (w .left); right = w .right }
+  tableStep (timer before) w = record { left = tableCalled (timerOf limit (w .left .link) (length before)) before [] [] 0 (w .left); right = w .right }
+  tableStep (start before) w = record { left = tableCalled (startOf limit (w .left .link) (length before)) before [] [] 0 (w .left); right = w .right }
+  tableStep (arrival before) w = tableArrived (w .right .line) before w
+  tableStep (loss n) w = lostAt n (getElem? (w .left .line) n) w
+
+  -- at either end
+  abbrev pub tableStepAt : Side → Act → World Model → World Model
+  tableStepAt left a w = tableStep a w
+  tableStepAt right a w = mirror (tableStep a (mirror w))
+
+  abbrev pub tableRun : List Event → World Model → World Model
+  tableRun [] w = w
+  tableRun (e ∷ es) w = tableRun es (tableStepAt (e .side) (e .act) w)
+
+-- demand 3's first part, as a claim about the table with this limit
+abbrev pub InOrder : ℕ → Type 0
+InOrder limit = (es : List Event) → IsPrefix (tableRun limit es (initial opened opened) .right .delivered) (tableRun limit es (initial opened opened) .left .accepted)
+    × IsPrefix (tableRun limit es (initial opened opened) .left .delivered) (tableRun limit es (initial opened opened) .right .accepted)
