@@ -52,26 +52,26 @@ static_assert(sizeof(hasfandur_dlc_queued) == 264, "hasfandur_dlc_queued");
 FIELD(hasfandur_dlc_queued, length, 0, 8);
 FIELD(hasfandur_dlc_queued, octets, 8, 256);
 
-static_assert(sizeof(hasfandur_dlc_queue) == 1856, "hasfandur_dlc_queue");
+static_assert(sizeof(hasfandur_dlc_queue) == 3968, "hasfandur_dlc_queue");
 FIELD(hasfandur_dlc_queue, count, 0, 8);
-FIELD(hasfandur_dlc_queue, slots, 8, 1848);
+FIELD(hasfandur_dlc_queue, slots, 8, 3960);
 
-static_assert(sizeof(hasfandur_dlc_link) == 1872, "hasfandur_dlc_link");
+static_assert(sizeof(hasfandur_dlc_link) == 3984, "hasfandur_dlc_link");
 FIELD(hasfandur_dlc_link, state, 0, 1);
-FIELD(hasfandur_dlc_link, queue, 8, 1856);
-FIELD(hasfandur_dlc_link, base, 1864, 1);
-FIELD(hasfandur_dlc_link, expected, 1865, 1);
+FIELD(hasfandur_dlc_link, queue, 8, 3968);
+FIELD(hasfandur_dlc_link, base, 3976, 1);
+FIELD(hasfandur_dlc_link, expected, 3977, 1);
 
-static_assert(sizeof(hasfandur_dlc_answer) == 72, "hasfandur_dlc_answer");
+static_assert(sizeof(hasfandur_dlc_answer) == 136, "hasfandur_dlc_answer");
 FIELD(hasfandur_dlc_answer, number, 0, 1);
 FIELD(hasfandur_dlc_answer, upper_reset, 1, 1);
 FIELD(hasfandur_dlc_answer, delivered, 2, 1);
 FIELD(hasfandur_dlc_answer, sent, 8, 8);
-FIELD(hasfandur_dlc_answer, lengths, 16, 56);
+FIELD(hasfandur_dlc_answer, lengths, 16, 120);
 
-static_assert(sizeof(hasfandur_dlc_outcome) == 1944, "hasfandur_dlc_outcome");
-FIELD(hasfandur_dlc_outcome, link, 0, 1872);
-FIELD(hasfandur_dlc_outcome, answer, 1872, 72);
+static_assert(sizeof(hasfandur_dlc_outcome) == 4120, "hasfandur_dlc_outcome");
+FIELD(hasfandur_dlc_outcome, link, 0, 3984);
+FIELD(hasfandur_dlc_outcome, answer, 3984, 136);
 
 static_assert(sizeof(hasfandur_part) == 16, "hasfandur_part");
 FIELD(hasfandur_part, place, 0, 8);

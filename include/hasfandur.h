@@ -24,8 +24,8 @@ extern "C" {
 
 /* The version, and the same as one number to compare: 10000 for the first part, 100 for the second. */
 /* begin version: written by include/numbers */
-#define HASFANDUR_VERSION "0.7.0"
-#define HASFANDUR_VERSION_NUMBER 700
+#define HASFANDUR_VERSION "0.8.0"
+#define HASFANDUR_VERSION_NUMBER 800
 /* end version */
 
 /* On calls that give a state or a link back: who drops it goes on with the old one. */
@@ -60,7 +60,7 @@ enum hasfandur_number {
     HASFANDUR_DLC_BAD_PACKET = 23, /* DLC arrival: what arrived is no packet */
     HASFANDUR_DLC_NO_ENTRY = 24, /* DLC every event: no entry in this state, or a DACK of none or of more than are queued */
     HASFANDUR_DLC_OTHER_NUMBER = 25, /* DLC arrival, no refusal: DATA with another number than the expected one; a DACK is sent */
-    HASFANDUR_DLC_REPLY_TOO_SMALL = 26, /* DLC every event: `reply` is under 1,799 octets */
+    HASFANDUR_DLC_REPLY_TOO_SMALL = 26, /* DLC every event: `reply` is under 3,855 octets */
     HASFANDUR_DLC_BAD_LINK = 27, /* DLC every event: the link is not well formed */
     HASFANDUR_AFP_BAD_LENGTH = 30, /* AFP reader: frame not of 14 to 2,560 octets */
     HASFANDUR_AFP_BAD_CHECK = 31, /* AFP reader: check sequence */
@@ -93,8 +93,8 @@ enum hasfandur_number {
 #define HASFANDUR_KISS_MAX_FRAME 5123 /* an `out` that has room for every KISS frame */
 #define HASFANDUR_DLC_MAX_PAYLOAD 256 /* a DLC payload, which may be empty */
 #define HASFANDUR_DLC_MAX_PACKET 257 /* a DLC packet */
-#define HASFANDUR_DLC_SLOTS 7 /* payloads that a link's queue holds */
-#define HASFANDUR_DLC_REPLY_SIZE 1799 /* the link's `reply`, at least: a whole queue of the longest packets */
+#define HASFANDUR_DLC_SLOTS 15 /* payloads that a link's queue holds */
+#define HASFANDUR_DLC_REPLY_SIZE 3855 /* the link's `reply`, at least: a whole queue of the longest packets */
 #define HASFANDUR_AFP_MIN_FRAME 14 /* the shortest AFP frame */
 #define HASFANDUR_AFP_MAX_FRAME 2560 /* the longest; an `out` that has room for every AFP frame */
 #define HASFANDUR_AFP_MIN_HEADER 12 /* the shortest AFP header */

@@ -15,7 +15,7 @@ use Rattle.dlc_pair.specs.History.{Event, History, final, TimerWaits}
 
 -- from a sender to its receiver:
 --   prefix   the payloads delivered are an initial part of those accepted, in order, empty ones too
---   bound    where the sender's timer waited, DATA sent ≤ accepted + seven for each lost
+--   bound    where the sender's timer waited, DATA sent ≤ accepted + fifteen for each lost ("plus fifteen for each lost", 2026-06)
 --   formed   27 is never its answer
 pub record OneWay {L : Type 0} (sender receiver : End L) (Waited : Type 0) : Type 0 where
   pub prefix : IsPrefix (receiver .delivered) (sender .accepted)

@@ -1,4 +1,5 @@
--- The queue: "the queue holds at most 7 payloads, oldest first, and freed places are used again". A place is a slot here.
+-- The queue: it "holds at most 7 payloads, oldest first, and freed places are used again"; in place of the 7 "the queue takes 15" (2026-06). A place is
+-- a slot here.
 -- Cited by dlc_queue's and dlc_send's functions and by the specs of the link. Assumes nothing.
 --
 --   payloads q     the payloads that a queue holds; octets past a payload's length and slots past the count are free, and no part of it
@@ -19,11 +20,11 @@ use Rattle.dlc_packet.specs.Packet.{maxPayload, maxPacket}
 use Rattle.dlc_queue.specs.declared.Payload.{Payload}
 use Rattle.dlc_queue.specs.declared.Queue.{Queue}
 
--- payloads that a queue can hold
+-- payloads that a queue can hold: fewer than there are numbers, or a repeat could be taken for new DATA (docs/SIXTEEN.md)
 abbrev pub slots : ℕ
-slots = 7
+slots = 15
 
--- octets of a reply buffer: room for a full queue of the longest payloads, each with its control octet
+-- octets of a reply buffer, 3,855: room for a full queue of the longest payloads, each with its control octet
 abbrev pub replySize : ℕ
 replySize = slots * maxPacket
 

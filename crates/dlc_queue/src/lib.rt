@@ -24,7 +24,7 @@ pub struct Queue {
 }
 
 impl Queue {
-    pub const SLOTS: usize = 7;
+    pub const SLOTS: usize = 15;
 
     // Octets that all slots take as DATA packets: what a reply buffer must have.
     pub const REPLY_SIZE: usize = Queue::SLOTS * MAX_PACKET;

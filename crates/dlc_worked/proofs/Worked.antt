@@ -101,6 +101,9 @@ tightEvents =
     ++ (at left (timer buffer) ∷ [])
 
 pub record Tight {L : Type 0} (v : L → Model) (l l′ : L) (h : History v tightEvents (initial l l′)) : Type 0 where
+  pub sent : dataSent (final v tightEvents (initial l l′) h .left) ≡ 2 * slots
+  pub accepted : final v tightEvents (initial l l′) h .left .accepted ≡ payloadsFrom slots 1
+  pub lost : final v tightEvents (initial l l′) h .left .lost ≡ 1
   pub bound : dataSent (final v tightEvents (initial l l′) h .left)
       ≡ length (final v tightEvents (initial l l′) h .left .accepted) + slots * final v tightEvents (initial l l′) h .left .lost
   pub waits : TimerWaits v left tightEvents (initial l l′) h
@@ -109,6 +112,9 @@ pub tight : {L : Type 0} (v : L → Model) (l l′ : L) → v l ≡ opened → v
 tight v l l′ e e′ h =
     let f = followed simulates v l l′ e e′ tightEvents h in
     record {
+      sent = f .left .sent;
+      accepted = f .left .accepted;
+      lost = f .left .lost;
       bound = f .left .sent ∙ sym (λ i. length (f .left .accepted i) + slots * f .left .lost i);
       waits = waited simulates v l l′ e e′ tightEvents h left tt;
     }

@@ -32,12 +32,12 @@ through-distance b k h l = omega arith
 pub through-lawful : (w : ℕ) (once : Bool) → w < modulus → Lawful (through w once)
 through-lawful w once h = record { below = h; distance = through-distance }
 
--- seven slots as in the paper; fifteen, payloads sent at once, and the other DACK
-pub seven : (es : List Event) → SlidingWindow (expecting 7 false) es
-seven es = sliding-window (expecting 7 false) (expecting-lawful 7 false (omega arith)) es
+-- fifteen slots and payloads sent at once, as the link has them (2026-06, 2026-03), with the paper's DACK and with the other
+pub fifteen : (es : List Event) → SlidingWindow (expecting 15 true) es
+fifteen es = sliding-window (expecting 15 true) (expecting-lawful 15 true (omega arith)) es
 
-pub fifteen : (es : List Event) → SlidingWindow (through 15 true) es
-fifteen es = sliding-window (through 15 true) (through-lawful 15 true (omega arith)) es
+pub fifteen-through : (es : List Event) → SlidingWindow (through 15 true) es
+fifteen-through es = sliding-window (through 15 true) (through-lawful 15 true (omega arith)) es
 
 -- ---- runs
 abbrev pub at : Side → Act → Event
@@ -65,7 +65,7 @@ tight-waits = timerWaits-true (expecting 3 false) left (tight 3) start tt
 pub tight-fifteen : run (expecting 15 false) (tight 15) start .left .sender .sent ≡ 15 + 15 * run (expecting 15 false) (tight 15) start .left .sender .lost
 tight-fifteen = refl
 
--- ---- sixteen slots. Sixteen payloads are sent and delivered, and no DACK comes back. The timer sends all sixteen again: the first has the
+-- ---- sixteen slots, by rules under which the timer alone sends; the run of the link itself is in dlc_worked. Sixteen payloads are sent and delivered, and no DACK comes back. The timer sends all sixteen again: the first has the
 -- number 0, which the receiver expects again, and is delivered a second time: 17 delivered of 16 accepted. With fifteen slots the same run is
 -- right: the receiver expects 15, and no slot has that number
 abbrev again : ℕ → List Event
