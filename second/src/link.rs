@@ -1,7 +1,8 @@
 //! One end of a DLC link, by the step table of the scope paper.
 use std::ops::Range;
 
-pub const QUEUE: usize = 7;
+/// "The queue takes 15" (2026-06); the scope paper has 7.
+pub const QUEUE: usize = 15;
 pub const PAYLOAD: usize = 256;
 /// The reply store has at least this many octets: a whole queue of the longest DATA.
 pub const REPLY: usize = QUEUE * (PAYLOAD + 1);

@@ -151,6 +151,23 @@ fn link_limits() {
     assert_eq!(wrong.timer(&mut []).1.number, 27);
 }
 
+/// "A seventh payload is queued, an eighth answers 22": with 2026-06 the fifteenth and the sixteenth. 26 and 27 follow.
+#[test]
+fn sixteenth_payload() {
+    let mut reply = [0; 3855];
+    let mut link = opened();
+    for i in 1..=16 {
+        let (after, answer) = link.payload(&[i], &mut reply);
+        assert_eq!(answer.number, if i <= 15 { 0 } else { 22 });
+        link = after;
+    }
+    assert_eq!(link.queue.len(), 15);
+    assert_eq!(link.clone().timer(&mut reply).1.sent, [2; 15]);
+    assert_eq!(link.clone().timer(&mut reply[..3854]).1.number, 26);
+    link.queue.push(vec![16]);
+    assert_eq!(link.timer(&mut reply).1.number, 27);
+}
+
 /// What was handed up is an initial part of what was accepted, and enough came through for that to say something.
 fn initial_part(up: &[Vec<u8>], accepted: &[Vec<u8>]) {
     assert!(accepted.starts_with(up));

@@ -101,7 +101,8 @@ pub fn events() -> Vec<Named<Event>> {
         let name = format!("DATA {} with {size} octets", number % 16);
         events.push((name, packet(0x40, number, size)));
     }
-    for distance in [0, 1, SOME, SOME + 1, QUEUE, QUEUE + 1] {
+    // none is above a full queue: behind 15 comes 0 again
+    for distance in [0, 1, SOME, SOME + 1, QUEUE - 1, QUEUE] {
         let number = (OLDEST + distance as u8) % 16;
         let name = format!("DACK {number}, distance {distance}");
         events.push((name, packet(0x50, number, 0)));
