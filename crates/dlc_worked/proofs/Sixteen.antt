@@ -1,0 +1,83 @@
+-- Why sixteen slots are too many: the step table with sixteen places, by computation. docs/SIXTEEN.md tells the run. Assumes nothing.
+--
+-- InOrder holds of the table with as many places as the queue has slots (`in-order`, dlc_pair/proofs/ByTheTable), and not with sixteen (`out-of-order`).
+use Prim.Native.Nat.{ℕ, _+_}
+use native.Mathlib.Omega.{arith}
+use mathlib.Core.Path.{_≡_, refl, sym, ap, _∙_}
+use mathlib.Core.List.{List, [], _∷_, _++_, flatten}
+use lib.ListN.{length, replicate, length-append}
+use Rattle.dlc_packet.specs.Packet.{dackPacket}
+use Rattle.dlc_table.specs.declared.State.the-variants.{Data, Wait}
+use Rattle.dlc_table.specs.Answers.{done, noEntry, otherNumber}
+use Rattle.dlc_table.specs.Model.{Model, rebuilt, opened}
+use Rattle.dlc_table.specs.Events.{effect, refuse, timerOf, payloadOf, arrivalOf}
+use Rattle.dlc.specs.Limits.{slots}
+use Rattle.dlc_pair.specs.History.{Drained}
+use Rattle.dlc_pair.specs.TableRun.{tableRun, InOrder}
+use Rattle.dlc_worked.specs.Script.{payloadsFrom}
+use Rattle.dlc_worked.specs.Again.{tooMany, buffer, filled, unanswered, again, hasty, openEnds}
+
+-- ---- sixteen places, sixteen numbers
+-- all sixteen are delivered, and the right end stands as it did before the first: nothing tells it that DATA 0 would be a repeat
+pub receiver-as-at-the-start : tableRun tooMany (filled tooMany) openEnds .right .link ≡ opened
+unfolding timerOf payloadOf arrivalOf flatten
+receiver-as-at-the-start = refl
+
+-- the timer comes when nothing is on the line: it waits, as the bound asks
+pub timer-waits : Drained (tableRun tooMany (unanswered tooMany) openEnds)
+unfolding timerOf payloadOf arrivalOf flatten
+timer-waits = (refl, refl)
+
+-- the run has 50 events, and no call of it is refused
+pub run-length : length (again tooMany) ≡ 50
+run-length = refl
+
+pub nothing-refused : (tableRun tooMany (again tooMany) openEnds .left .answers ++ tableRun tooMany (again tooMany) openEnds .right .answers) ≡ replicate 34 done
+unfolding timerOf payloadOf arrivalOf flatten
+nothing-refused = refl
+
+-- sixteen payloads are accepted; seventeen are delivered, the first a second time at the end
+pub sixteen-accepted : tableRun tooMany (again tooMany) openEnds .left .accepted ≡ payloadsFrom tooMany 1
+unfolding timerOf payloadOf arrivalOf flatten
+sixteen-accepted = refl
+
+pub seventeen-delivered : tableRun tooMany (again tooMany) openEnds .right .delivered ≡ payloadsFrom tooMany 1 ++ payloadsFrom 1 1
+unfolding timerOf payloadOf arrivalOf flatten
+seventeen-delivered = refl
+
+-- so demand 3's first part is false with sixteen places
+pub out-of-order : InOrder tooMany → ⊥
+out-of-order c =
+    let p = c (again tooMany) .0 in
+    omega (arith, ap length (p .1), length-append (tableRun tooMany (again tooMany) openEnds .right .delivered) (p .0), ap length seventeen-delivered, ap length sixteen-accepted)
+
+-- the sending end's half of it: with sixteen queued the DACK of all sixteen is DACK 0, whose distance is 0, and answers 24; with the slots that there
+-- are the DACK of all empties the queue
+abbrev holding : ℕ → Model
+holding n = rebuilt opened Wait (payloadsFrom n 1) 0 0
+
+pub dack-of-all : (arrivalOf tooMany (holding tooMany) (dackPacket 0) (length buffer) ≡ refuse (holding tooMany) noEntry)
+    × (arrivalOf slots (holding slots) (dackPacket slots) (length buffer) ≡ effect done [] (rebuilt opened Data [] slots 0))
+unfolding arrivalOf
+dack-of-all = (refl, refl)
+
+-- with the timer called while the DACKs are on their way no packet need be lost: 34 events
+pub hasty-length : length (hasty tooMany) ≡ 34
+hasty-length = refl
+
+pub hasty-delivered : tableRun tooMany (hasty tooMany) openEnds .right .delivered ≡ payloadsFrom tooMany 1 ++ payloadsFrom 1 1
+unfolding timerOf payloadOf arrivalOf flatten
+hasty-delivered = refl
+
+-- ---- the same run with the slots that there are: the right end expects 15, which no payload of the queue carries; the repeat is answered 25 and not delivered
+pub fifteen-expected : tableRun slots (filled slots) openEnds .right .link .expected ≡ slots
+unfolding timerOf payloadOf arrivalOf flatten
+fifteen-expected = refl
+
+pub fifteen-delivered : tableRun slots (again slots) openEnds .right .delivered ≡ payloadsFrom slots 1
+unfolding timerOf payloadOf arrivalOf flatten
+fifteen-delivered = refl
+
+pub repeat-refused : tableRun slots (again slots) openEnds .right .answers ≡ replicate slots done ++ (otherNumber ∷ [])
+unfolding timerOf payloadOf arrivalOf flatten
+repeat-refused = refl
