@@ -3,8 +3,8 @@
 -- InOrder holds of the table with as many places as the queue has slots (`in-order`, dlc_pair/proofs/ByTheTable), and not with sixteen (`out-of-order`).
 use Prim.Native.Nat.{ℕ, _+_}
 use native.Mathlib.Omega.{arith}
-use mathlib.Core.Path.{_≡_, refl, sym, ap, _∙_}
-use mathlib.Core.List.{List, [], _∷_, _++_, flatten}
+use mathlib.Core.Path.{_≡_, refl, ap}
+use mathlib.Core.List.{[], _∷_, _++_, flatten}
 use lib.ListN.{length, replicate, length-append}
 use Rattle.dlc_packet.specs.Packet.{dackPacket}
 use Rattle.dlc_table.specs.declared.State.the-variants.{Data, Wait}
