@@ -14,7 +14,7 @@ use Rattle.dlc.specs.Calls.{answerOf, Meets}
 use Rattle.dlc_run.specs.Replies.{Octets, Packets, isData, isDack, acceptedBy, deliveredBy}
 use Rattle.window.specs.Sides.{Side, left, right, mirror}
 use Rattle.dlc_pair.specs.World.{End, World, initial}
-use Rattle.dlc_pair.specs.History.{Act, payload, timer, start, arrival, loss, Event, GivenFront, Given, GivenAt, called, lostBy, arrived, lostAt, after, afterAt}
+use Rattle.dlc_pair.specs.History.{Act, payload, timer, start, arrival, loss, Event, GivenFront, Given, GivenAt, called, relined, lostBy, arrived, lostAt, after, afterAt}
 use Rattle.dlc_pair.specs.History.{History, final}
 use Rattle.dlc_pair.specs.TableRun.{tableCalled, tableArrived, tableStep, tableStepAt, tableRun, InOrder}
 use Rattle.dlc_pair.proofs.Links.{open-link, history-exists-link, demand-three-link}
@@ -52,15 +52,7 @@ module _ {L : Type 0} (v : L → Model) where
       let m = g .meets in
       λ i. record {
         left = call-seen (w .left) (λ _. []) (deliveredBy q) (lostBy (isDack q)) m i;
-        right = seenEnd v (record {
-          link = w .right .link;
-          line = qs;
-          copied = w .right .copied;
-          accepted = w .right .accepted;
-          delivered = w .right .delivered;
-          lost = Prim.Native.Nat._+_ (w .right .lost) (lostBy (isData q) (m .returns .answer i));
-          answers = w .right .answers;
-        });
+        right = relined qs (lostBy (isData q) (m .returns .answer i)) (seenEnd v (w .right));
       }
 
   lost-seen : (n : ℕ) (q : Option Octets) (w : World L) → seen v (lostAt n q w) ≡ lostAt n q (seen v w)
