@@ -1,38 +1,22 @@
 -- The world of demand 3 is the step table's, of as many places as the queue has slots: whatever the calls of a history gave back under their contracts,
--- what is seen of the world after it is the table's run of its events (specs/TableRun). So demand 3 speaks of the table, too. Assumes nothing.
+-- what is seen of the world after it is the table's run of its events (specs/TableRun). So what is proved of the table's runs holds of histories. Assumes nothing.
 use Prim.Native.Nat.{ℕ}
-use mathlib.Core.Path.{_≡_, refl, ap, subst, _∙_}
+use mathlib.Core.Path.{_≡_, refl, ap, _∙_}
 use mathlib.Core.Option.{Option, none, some}
-use mathlib.Core.List.{List, [], _∷_, IsPrefix}
+use mathlib.Core.List.{List, [], _∷_}
 use lib.ListN.{getElem?}
-use Rattle.dlc_table.specs.Model.{Model, opened}
+use Rattle.dlc_table.specs.Model.{Model}
 use Rattle.dlc_table.specs.Events.{Effect}
 use Rattle.dlc_answer.specs.declared.Answer.{Answer}
 use Rattle.dlc.specs.Limits.{slots}
-use Rattle.dlc.specs.View.{view}
 use Rattle.dlc.specs.Calls.{answerOf, Meets}
 use Rattle.dlc_run.specs.Replies.{Octets, Packets, isData, isDack, acceptedBy, deliveredBy}
 use Rattle.window.specs.Sides.{Side, left, right, mirror}
-use Rattle.dlc_pair.specs.World.{End, World, initial}
+use Rattle.dlc_pair.specs.World.{End, World}
 use Rattle.dlc_pair.specs.History.{Act, payload, timer, start, arrival, loss, Event, GivenFront, Given, GivenAt, called, relined, lostBy, arrived, lostAt, after, afterAt}
 use Rattle.dlc_pair.specs.History.{History, final}
-use Rattle.dlc_pair.specs.TableRun.{tableCalled, tableArrived, tableStep, tableStepAt, tableRun, InOrder}
-use Rattle.dlc_pair.proofs.Links.{open-link, history-exists-link, demand-three-link}
-
--- what is seen of an end: the model of its link, and all else
-abbrev pub seenEnd : {L : Type 0} → (L → Model) → End L → End Model
-seenEnd v e = record {
-  link = v (e .link);
-  line = e .line;
-  copied = e .copied;
-  accepted = e .accepted;
-  delivered = e .delivered;
-  lost = e .lost;
-  answers = e .answers;
-}
-
-abbrev pub seen : {L : Type 0} → (L → Model) → World L → World Model
-seen v w = record { left = seenEnd v (w .left); right = seenEnd v (w .right) }
+use Rattle.dlc_pair.specs.TableRun.{tableCalled, tableArrived, tableStep, tableStepAt, tableRun}
+use Rattle.dlc_pair.proofs.Relation.{seenEnd, seen}
 
 module _ {L : Type 0} (v : L → Model) where
   -- ---- a call; what its caller makes of the answer is made of the table's
@@ -69,7 +53,7 @@ module _ {L : Type 0} (v : L → Model) where
   step-by-the-table (arrival before) w g = arrived-seen (w .right .line) before w g
   step-by-the-table (loss n) w g = lost-seen n (getElem? (w .left .line) n) w
 
-  stepAt-by-the-table : (d : Side) (a : Act) (w : World L) (g : GivenAt v d a w) → seen v (afterAt v d a w g) ≡ tableStepAt slots d a (seen v w)
+  pub stepAt-by-the-table : (d : Side) (a : Act) (w : World L) (g : GivenAt v d a w) → seen v (afterAt v d a w g) ≡ tableStepAt slots d a (seen v w)
   stepAt-by-the-table left a w g = step-by-the-table a w g
   stepAt-by-the-table right a w g = ap mirror (step-by-the-table a (mirror w) g)
 
@@ -78,15 +62,3 @@ module _ {L : Type 0} (v : L → Model) where
   final-by-the-table [] w h = refl
   final-by-the-table (e ∷ es) w h =
       final-by-the-table es (afterAt v (e .side) (e .act) w (h .0)) (h .1) ∙ ap (tableRun slots es) (stepAt-by-the-table (e .side) (e .act) w (h .0))
-
--- demand 3's first part, of the table by itself
-pub in-order : InOrder slots
-in-order es =
-    let o = open-link in
-    let h = history-exists-link (o .0) (o .0) (o .1) (o .1) es in
-    let c = demand-three-link (o .0) (o .0) (o .1) (o .1) es h in
-    let e : seen view (final view es (initial (o .0) (o .0)) h) ≡ tableRun slots es (initial opened opened)
-    = final-by-the-table view es (initial (o .0) (o .0)) h ∙ ap (λ (m : Model). tableRun slots es (initial m m)) (o .1) in (
-      subst (λ (w : World Model). IsPrefix (w .right .delivered) (w .left .accepted)) e (c .leftToRight .prefix),
-      subst (λ (w : World Model). IsPrefix (w .left .delivered) (w .right .accepted)) e (c .rightToLeft .prefix),
-    )

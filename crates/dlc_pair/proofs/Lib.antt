@@ -1,6 +1,7 @@
 pub mod Cases
 pub mod Codec
 pub mod Relation
+pub mod ByTheTable
 pub mod OneCall
 pub mod Simulates
 pub mod Effects
@@ -12,4 +13,3 @@ pub mod Progress
 pub mod Theorems
 pub mod Opening
 pub mod Links
-pub mod ByTheTable

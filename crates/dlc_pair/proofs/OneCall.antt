@@ -3,23 +3,23 @@ use Prim.Native.Nat.{ℕ, _+_, _<_}
 use native.Mathlib.Nat.{add-zero}
 use mathlib.Core.Path.{_≡_, refl, sym, ap, subst, _∙_}
 use mathlib.Core.Logic.{_≢_}
-use mathlib.Core.List.{List, [], _∷_, _++_, map, map-append, append-nil}
+use mathlib.Core.List.{List, [], _∷_, _++_, map, map-append, append-nil, flatten}
+use Rattle.common.specs.Buffer.{withFront}
 use Rattle.dlc_table.specs.Answers.{badLink}
 use Rattle.dlc_table.specs.Model.{Model}
 use Rattle.dlc_table.specs.Events.{Effect, refuse}
-use Rattle.dlc_answer.specs.declared.Answer.{Answer}
 use Rattle.dlc.specs.Limits.{modulus, dackPacket}
-use Rattle.dlc.specs.Calls.{Meets}
+use Rattle.dlc.specs.Calls.{answerOf}
 use Rattle.dlc.proofs.Values.{Fits}
-use Rattle.dlc_run.proofs.Copied.{copiedBy-packets}
+use Rattle.dlc_run.proofs.Copied.{packetsIn-flatten}
 use Rattle.dlc_run.specs.Replies.{Octets, Packets, isData, copiedBy, Never}
 use Rattle.window.specs.Packets.{Packet, dackPdu, countData}
 use Rattle.window.specs.Ends.{Rules, End as Peer, Sender, Receiver, withSender, answering}
 use Rattle.window.proofs.InFlight.{All, all-++}
 use Rattle.dlc_pair.specs.World.{count, End}
-use Rattle.dlc_pair.specs.History.{called}
+use Rattle.dlc_pair.specs.TableRun.{tableCalled}
 use Rattle.dlc_pair.proofs.Codec.{encode, Sound, count-++, count-data}
-use Rattle.dlc_pair.proofs.Relation.{Follows}
+use Rattle.dlc_pair.proofs.Relation.{Follows, same}
 
 -- what an effect has to be for its end to follow the packet system's end b, which comes of a: it sends, accepts, delivers and loses as b does
 pub record Becomes (modelOf : Peer → Model) (d : Effect) (a b : Peer) (accepted delivered : Packets) (lost : ℕ) : Type 0 where
@@ -38,23 +38,23 @@ pub never-snoc : (c : ℕ) (xs : List ℕ) (x : ℕ) → Never c xs → x ≢ c 
 never-snoc c [] x n h = (h, tt)
 never-snoc c (y ∷ xs) x n h = (n .0, never-snoc c xs x (n .1) h)
 
-pub follows-called : {modelOf : Peer → Model} {L : Type 0} {v : L → Model} {d : Effect} {l r : L} {before later : Octets} {answer : Answer}
-    → Meets v d l before later r answer
-    → {e : End L} {a b : Peer} {accepted delivered : Packets} {n : ℕ}
-    → Follows modelOf v e a
+-- an end whose call does what the table says
+pub follows-called : {modelOf : Peer → Model} {d : Effect} (before : Octets) {e : End Model} {a b : Peer} {accepted delivered : Packets} {n : ℕ}
+    → Follows modelOf same e a
     → Becomes modelOf d a b accepted delivered n
     → Fits (d .after)
-    → Follows modelOf v (called r answer later accepted delivered n e) b
-follows-called {later = later} {answer = answer} m {e} {a} {b} {accepted} {delivered} {n} f c fits =
-    let p : copiedBy answer later ≡ map encode (c .sends) = copiedBy-packets m ∙ c .packets in
+    → Follows modelOf same (tableCalled d before accepted delivered n e) b
+follows-called {d = d} before {e} {a} {b} {accepted} {delivered} {n} f c fits =
+    let later : Octets = withFront (flatten (d .packets)) before in
+    let p : copiedBy (answerOf d) later ≡ map encode (c .sends) = packetsIn-flatten (d .packets) _ _ ∙ c .packets in
     record {
-      model = m .returns .link ∙ c .model;
+      model = c .model;
       line = (λ i. f .line i ++ p i) ∙ sym (map-append encode (a .line) (c .sends)) ∙ ap (map encode) (sym (c .line));
       accepted = ap (λ (t : Packets). t ++ accepted) (f .accepted) ∙ sym (c .accepts);
       delivered = ap (λ (t : Packets). t ++ delivered) (f .delivered) ∙ sym (c .delivers);
-      sent = count-++ isData (e .copied) (copiedBy answer later) ∙ (λ i. f .sent i + (ap (count isData) p ∙ count-data (c .sends) (c .sound)) i) ∙ sym (c .sent);
+      sent = count-++ isData (e .copied) (copiedBy (answerOf d) later) ∙ (λ i. f .sent i + (ap (count isData) p ∙ count-data (c .sends) (c .sound)) i) ∙ sym (c .sent);
       lost = ap (λ (t : ℕ). t + n) (f .lost) ∙ sym (c .loses);
-      never = never-snoc badLink (e .answers) (answer .code) (f .never) (λ x. c .code (sym (ap (λ (t : Answer). t .code) (m .returns .answer)) ∙ x));
+      never = never-snoc badLink (e .answers) (d .code) (f .never) (c .code);
       fits = subst Fits (c .model) fits;
       sound = subst (All Sound) (sym (c .line)) (all-++ Sound (a .line) (c .sends) (f .sound) (c .sound));
     }

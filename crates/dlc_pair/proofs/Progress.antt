@@ -26,21 +26,21 @@ use Rattle.dlc_pair.proofs.Simulates.{tooShort, Simulates}
 use Rattle.dlc_pair.proofs.Runs.{eventOf, runOf, waits-follow, run-follows}
 
 -- ---- the packet system's exchange
-enough-long : (b : Octets) → Enough b → not (tooShort b) ≡ true
+enough-long : (b : Octets) → Enough b → not (tooShort slots b) ≡ true
 enough-long b h = ap not (le-ltb (length b) replySize h)
 
 arrivals-packets : (d : Side) (bs : List Octets) → AllEnough bs
-    → map eventOf (arrivals d bs) ≡ replicate (length bs) (record { side = d; act = receive true })
+    → map (eventOf slots) (arrivals d bs) ≡ replicate (length bs) (record { side = d; act = receive true })
 arrivals-packets d [] h = refl
 arrivals-packets d (b ∷ bs) h = λ i. record { side = d; act = receive (enough-long b (h .0) i) } ∷ arrivals-packets d bs (h .1) i
 
 exchange-packets : (d : Side) (b : Octets) (bs cs : List Octets) → Enough b → AllEnough bs → AllEnough cs
-    → map eventOf (exchange d b bs cs) ≡ packetExchange d (length bs) (length cs)
+    → map (eventOf slots) (exchange d b bs cs) ≡ packetExchange d (length bs) (length cs)
 exchange-packets d b bs cs h hs ks =
     let there = arrivals-packets (opposite d) bs hs in
     let here = arrivals-packets d cs ks in
-    let both : map eventOf (arrivals (opposite d) bs ++ arrivals d cs) ≡ _ = map-append eventOf (arrivals (opposite d) bs) (arrivals d cs) ∙ (λ i. there i ++ here i) in
-    ap (λ (ok : Bool). record { side = d; act = timeout ok } ∷ map eventOf (arrivals (opposite d) bs ++ arrivals d cs)) (enough-long b h)
+    let both : map (eventOf slots) (arrivals (opposite d) bs ++ arrivals d cs) ≡ _ = map-append (eventOf slots) (arrivals (opposite d) bs) (arrivals d cs) ∙ (λ i. there i ++ here i) in
+    ap (λ (ok : Bool). record { side = d; act = timeout ok } ∷ map (eventOf slots) (arrivals (opposite d) bs ++ arrivals d cs)) (enough-long b h)
     ∙ ap (λ (es : List PacketEvent). record { side = d; act = timeout true } ∷ es) both
 
 -- ---- the packet system's recovery, where all buffers are b
@@ -49,20 +49,20 @@ module _ (b : Octets) (h : Enough b) where
   enough-replicate zero = tt
   enough-replicate (suc n) = (h, enough-replicate n)
 
-  arrivals-replicate : (d : Side) (n : ℕ) → map eventOf (arrivals d (replicate n b)) ≡ replicate n (record { side = d; act = receive true })
+  arrivals-replicate : (d : Side) (n : ℕ) → map (eventOf slots) (arrivals d (replicate n b)) ≡ replicate n (record { side = d; act = receive true })
   arrivals-replicate d n =
       arrivals-packets d (replicate n b) (enough-replicate n)
       ∙ ap (λ (k : ℕ). replicate k (record { side = d; act = receive true })) (length-replicate n b)
 
-  exchange-replicate : (d : Side) (n : ℕ) → map eventOf (exchange d b (replicate n b) (replicate n b)) ≡ packetExchange d n n
+  exchange-replicate : (d : Side) (n : ℕ) → map (eventOf slots) (exchange d b (replicate n b) (replicate n b)) ≡ packetExchange d n n
   exchange-replicate d n =
       exchange-packets d b (replicate n b) (replicate n b) h (enough-replicate n) (enough-replicate n) ∙ ap (λ (k : ℕ). packetExchange d k k) (length-replicate n b)
 
   -- two lists of events, one after the other
-  events-++ : (es fs : List Event) {ks ls : List PacketEvent} → map eventOf es ≡ ks → map eventOf fs ≡ ls → map eventOf (es ++ fs) ≡ ks ++ ls
-  events-++ es fs e f = map-append eventOf es fs ∙ (λ i. e i ++ f i)
+  events-++ : (es fs : List Event) {ks ls : List PacketEvent} → map (eventOf slots) es ≡ ks → map (eventOf slots) fs ≡ ls → map (eventOf slots) (es ++ fs) ≡ ks ++ ls
+  events-++ es fs e f = map-append (eventOf slots) es fs ∙ (λ i. e i ++ f i)
 
-  recovery-packets : (n : ℕ) → map eventOf (recovery b n) ≡ packetRecovery n
+  recovery-packets : (n : ℕ) → map (eventOf slots) (recovery b n) ≡ packetRecovery n
   recovery-packets n =
       let one = replicate n b in
       let two = replicate (n + n) b in
@@ -91,7 +91,7 @@ line-nil {e} {a} f h = from-map (a .line) (sym (f .line) ∙ h)
 line-length : {modelOf : Peer → Model} {L : Type 0} {v : L → Model} {e : End L} {a : Peer} {n : ℕ} → Follows modelOf v e a → length (e .line) ≤ n → length (a .line) ≤ n
 line-length {e} {a} f h = omega (arith, ap length (f .line), length-map (a .line) encode)
 
-module _ {rules : Rules} {modelOf : Peer → Model} (table : Simulates rules modelOf) {L : Type 0} {v : L → Model} where
+module _ {rules : Rules} {modelOf : Peer → Model} (table : Simulates slots rules modelOf) {L : Type 0} {v : L → Model} where
   queue-follows : {e : End L} {a : Peer} → Follows modelOf v e a → v (e .link) .queue ≡ a .sender .queue
   queue-follows {a = a} f = ap (λ (m : Model). m .queue) (f .model) ∙ table .queue a
 
@@ -115,8 +115,8 @@ module _ {rules : Rules} {modelOf : Peer → Model} (table : Simulates rules mod
     -- where payloads are sent at once, nothing of an end was lost and nothing of it is on the line: whatever the timer did
     pub without-loss-from : T (rules .atOnce) → (d : Side) → endAt d (final v es w h) .lost ≡ 0 → DrainedAt d (final v es w h) → AllDelivered v d (final v es w h)
     without-loss-from t d z e =
-        let f : BothFollow modelOf v (final v es w h) (runOf rules es packetStart) = run-follows table es start h in
-        let p = packets-without-loss rules lawful t (map eventOf es) d (sym (end-follows d f .lost) ∙ z) (drained-follows d f e) in
+        let f : BothFollow modelOf v (final v es w h) (runOf slots rules es packetStart) = run-follows table es start h in
+        let p = packets-without-loss rules lawful t (map (eventOf slots) es) d (sym (end-follows d f .lost) ∙ z) (drained-follows d f e) in
         record {
           queue = queue-follows (end-follows d f) ∙ p .queue;
           delivered = end-follows (opposite d) f .delivered ∙ p .delivered ∙ sym (end-follows d f .accepted);
@@ -133,10 +133,10 @@ module _ {rules : Rules} {modelOf : Peer → Model} (table : Simulates rules mod
         → (more : History v (exchange d b bs cs) (final v es w h))
         → Settled v d (final v es w h) (final v (exchange d b bs cs) (final v es w h) more)
     progress-from el er d b bs cs hb hbs hcs fewer less more =
-        let s : Both Peer = runOf rules es packetStart in
+        let s : Both Peer = runOf slots rules es packetStart in
         let f : BothFollow modelOf v (final v es w h) s = run-follows table es start h in
         let queued : length (endAt d s .sender .queue) ≤ length bs = omega (arith, ap length (queue-follows (end-follows d f)), fewer) in
-        let p = packets-progress rules lawful (map eventOf es) d (line-nil (f .left) el) (line-nil (f .right) er) (length bs) (length cs) queued less in
+        let p = packets-progress rules lawful (map (eventOf slots) es) d (line-nil (f .left) el) (line-nil (f .right) er) (length bs) (length cs) queued less in
         settled-follows d f (run-follows table (exchange d b bs cs) f more)
         (subst (λ (fs : List PacketEvent). PacketSettled d s (run rules fs s)) (sym (exchange-packets d b bs cs hb hbs hcs)) p)
 
@@ -146,9 +146,9 @@ module _ {rules : Rules} {modelOf : Peer → Model} (table : Simulates rules mod
         → (more : History v (recovery b n) (final v es w h))
         → Recovered v (final v es w h) (final v (recovery b n) (final v es w h) more)
     recovers-from b hb n hl hr hn more =
-        let s : Both Peer = runOf rules es packetStart in
+        let s : Both Peer = runOf slots rules es packetStart in
         let f : BothFollow modelOf v (final v es w h) s = run-follows table es start h in
         let window : rules .window ≤ n = omega (arith, table .window, hn) in
-        let p = packets-recover rules lawful (map eventOf es) n (line-length (f .left) hl) (line-length (f .right) hr) window in
+        let p = packets-recover rules lawful (map (eventOf slots) es) n (line-length (f .left) hl) (line-length (f .right) hr) window in
         recovered-follows f (run-follows table (recovery b n) f more)
         (subst (λ (fs : List PacketEvent). PacketRecovered s (run rules fs s)) (sym (recovery-packets b hb n)) p)

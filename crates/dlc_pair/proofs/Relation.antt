@@ -81,3 +81,56 @@ follows-relined f l ks n m same el sound em = record {
   fits = subst Fits (sym same) (f .fits);
   sound = sound;
 }
+
+-- ---- what is seen of an end: the model of its link, and all else
+abbrev pub seenEnd : {L : Type 0} → (L → Model) → End L → End Model
+seenEnd v e = record {
+  link = v (e .link);
+  line = e .line;
+  copied = e .copied;
+  accepted = e .accepted;
+  delivered = e .delivered;
+  lost = e .lost;
+  answers = e .answers;
+}
+
+abbrev pub seen : {L : Type 0} → (L → Model) → World L → World Model
+seen v w = record { left = seenEnd v (w .left); right = seenEnd v (w .right) }
+
+-- a model as a link
+abbrev pub same : Model → Model
+same m = m
+
+-- what is seen follows where the end does, and the end where that does
+module _ {modelOf : Peer → Model} {L : Type 0} {v : L → Model} where
+  end-seen : {e : End L} {a : Peer} → Follows modelOf v e a → Follows modelOf same (seenEnd v e) a
+  end-seen f = record {
+    model = f .model;
+    line = f .line;
+    accepted = f .accepted;
+    delivered = f .delivered;
+    sent = f .sent;
+    lost = f .lost;
+    never = f .never;
+    fits = f .fits;
+    sound = f .sound;
+  }
+
+  end-unseen : {e : End L} {a : Peer} → Follows modelOf same (seenEnd v e) a → Follows modelOf v e a
+  end-unseen f = record {
+    model = f .model;
+    line = f .line;
+    accepted = f .accepted;
+    delivered = f .delivered;
+    sent = f .sent;
+    lost = f .lost;
+    never = f .never;
+    fits = f .fits;
+    sound = f .sound;
+  }
+
+  pub follow-seen : {w : World L} {s : Both Peer} → BothFollow modelOf v w s → BothFollow modelOf same (seen v w) s
+  follow-seen f = record { left = end-seen (f .left); right = end-seen (f .right) }
+
+  pub follow-unseen : {w : World L} {s : Both Peer} → BothFollow modelOf same (seen v w) s → BothFollow modelOf v w s
+  follow-unseen f = record { left = end-unseen (f .left); right = end-unseen (f .right) }

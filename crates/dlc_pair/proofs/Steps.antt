@@ -1,5 +1,5 @@
--- Each event is followed by the packet system, whatever its call gives back under its contract. Assumes nothing.
-use Prim.Native.Nat.{ℕ, zero, suc, _+_}
+-- Each event is followed by the packet system, at two ends whose calls do what the step table says. Assumes nothing.
+use Prim.Native.Nat.{ℕ, zero, suc, _+_, _≤_}
 use native.Mathlib.Omega.{arith}
 use mathlib.Core.Path.{_≡_, refl, sym, ap, subst, _∙_}
 use mathlib.Core.Bool.{Bool, true, false, cond, not, _&&_}
@@ -14,30 +14,31 @@ use Rattle.dlc_table.specs.Runs.{Event as Call, payload as payloadCall, timer a
 use Rattle.dlc_answer.specs.declared.Answer.{Answer}
 use Rattle.dlc.specs.Limits.{slots}
 use Rattle.dlc_answer.specs.Delivered.{deliveredPart}
-use Rattle.dlc.specs.Calls.{answerOf, Meets}
+use Rattle.dlc.specs.Calls.{answerOf}
 use Rattle.dlc_run.specs.Replies.{Octets, Packets, isData, isDack, acceptedBy, deliveredBy}
 use Rattle.dlc_run.proofs.Fitting.{effect-fits}
-use Rattle.window.specs.Sides.{Both, eraseAt}
+use Rattle.window.specs.Sides.{Side, left, right, Both, eraseAt}
 use Rattle.window.specs.Packets.{Packet, dataPdu, dackPdu}
 use Rattle.window.specs.Ends.{Rules, End as Peer, accept, sendAll}
-use Rattle.window.specs.Events.{Act as PacketAct, offer, timeout, receive, lose, loseAt, arrive, step}
+use Rattle.window.specs.Events.{Act as PacketAct, offer, timeout, receive, lose, loseAt, arrive, step, stepAt}
 use Rattle.window.proofs.InFlight.{All, all-eraseAt, map-eraseAt}
 use Rattle.window.proofs.Marks.{get-map}
 use Rattle.dlc_pair.specs.World.{one, World}
-use Rattle.dlc_pair.specs.History.{Act, payload, timer, start, arrival, loss, GivenFront, Given, called, relined, lostBy, arrived, lostAt, after}
+use Rattle.dlc_pair.specs.History.{Act, payload, timer, start, arrival, loss, relined, lostBy, lostAt}
+use Rattle.dlc_pair.specs.TableRun.{tableCalled, tableArrived, tableStep, tableStepAt}
 use Rattle.dlc_pair.proofs.Codec.{encode, Sound, dataBit, dackBit, isData-encode, isDack-encode}
-use Rattle.dlc_pair.proofs.Relation.{BothFollow, relinedPeer, follows-relined}
+use Rattle.dlc_pair.proofs.Relation.{Follows, BothFollow, follow-mirror, relinedPeer, follows-relined, same}
 use Rattle.dlc_pair.proofs.OneCall.{Becomes, follows-called}
 use Rattle.dlc_pair.proofs.Simulates.{tooShort, passes, deliveredWhen, lostWhen, offered, timedOut, reached, Simulates}
 
 -- the packet system's event; the Bool says that the call is not refused for what is lent to it. `start` changes nothing at an open link,
 -- and is an offer that is refused
-abbrev pub actOf : Act → PacketAct
-actOf (payload p before) = offer (passes p before) p
-actOf (timer before) = timeout (not (tooShort before))
-actOf (start before) = offer false []
-actOf (arrival before) = receive (not (tooShort before))
-actOf (loss n) = lose n
+abbrev pub actOf : ℕ → Act → PacketAct
+actOf limit (payload p before) = offer (passes limit p before) p
+actOf limit (timer before) = timeout (not (tooShort limit before))
+actOf limit (start before) = offer false []
+actOf limit (arrival before) = receive (not (tooShort limit before))
+actOf limit (loss n) = lose n
 
 -- ---- the packet system's step at the left end alone
 choice : (t : Bool) (b : Peer) (s : Both Peer) → cond t (record { left = b; right = s .right }) s ≡ record { left = cond t b (s .left); right = s .right }
@@ -72,59 +73,73 @@ sound-at n [] k h e = absurd (Option·none-ne-some k e)
 sound-at zero (j ∷ ks) k h e = subst Sound (Option·some-injective j k e) (h .0)
 sound-at (suc n) (j ∷ ks) k h e = sound-at n ks k (h .1) e
 
-module _ {rules : Rules} {modelOf : Peer → Model} (table : Simulates rules modelOf) where
-  module _ {L : Type 0} {v : L → Model} {w : World L} {s : Both Peer} (f : BothFollow modelOf v w s) where
-    module _ {before later : Octets} {r : L} {answer : Answer} where
-      -- the contract of a call at the left end, where the model of its link is known
-      met : (e : Call) → Meets v (effectOf slots e (v (w .left .link))) (w .left .link) before later r answer
-          → Meets v (effectOf slots e (modelOf (s .left))) (w .left .link) before later r answer
-      met e m = subst (λ (d : Effect). Meets v d (w .left .link) before later r answer) (ap (effectOf slots e) (f .left .model)) m
-
-      -- ---- a call that brings no packet: the left end comes to b, and accepts what its answer says
-      call-follows : (e : Call) (accepted : Answer → Packets) → Meets v (effectOf slots e (v (w .left .link))) (w .left .link) before later r answer → {b : Peer}
-          → Becomes modelOf (effectOf slots e (modelOf (s .left))) (s .left) b (accepted (answerOf (effectOf slots e (modelOf (s .left))))) [] 0
-          → BothFollow modelOf v (record { left = called r answer later (accepted answer) [] 0 (w .left); right = w .right }) (record { left = b; right = s .right })
-      call-follows e accepted m {b} c =
-          let d = effectOf slots e (modelOf (s .left)) in
-          let m′ = met e m in
-          record {
-            left = follows-called m′ (f .left) (subst (λ (t : Answer). Becomes modelOf d (s .left) b (accepted t) [] 0) (sym (m′ .returns .answer)) c)
-                (effect-fits e (modelOf (s .left)) (f .left .fits));
-            right = f .right;
-          }
+module _ {limit : ℕ} (few : limit ≤ slots) {rules : Rules} {modelOf : Peer → Model} (table : Simulates limit rules modelOf) where
+  module _ {w : World Model} {s : Both Peer} (f : BothFollow modelOf same w s) where
+    -- ---- a call that brings no packet: the left end comes to b, and accepts what its answer says
+    call-follows : (e : Call) (before : Octets) (accepted : Answer → Packets) {b : Peer}
+        → Becomes modelOf (effectOf limit e (modelOf (s .left))) (s .left) b (accepted (answerOf (effectOf limit e (modelOf (s .left))))) [] 0
+        → BothFollow modelOf same
+        (record {
+          left = tableCalled (effectOf limit e (w .left .link)) before (accepted (answerOf (effectOf limit e (w .left .link)))) [] 0 (w .left);
+          right = w .right;
+        })
+        (record { left = b; right = s .right })
+    call-follows e before accepted {b} c = record {
+      left = subst
+          (λ (m : Model). Follows modelOf same (tableCalled (effectOf limit e m) before (accepted (answerOf (effectOf limit e m))) [] 0 (w .left)) b)
+          (sym (f .left .model))
+          (follows-called before (f .left) c (effect-fits limit few e (modelOf (s .left)) (f .left .fits)));
+      right = f .right;
+    }
 
     -- ---- an arrival, by the front of the right end's line
-    front-follows : (before : Octets) (ks : List Packet) → All Sound ks → (g : GivenFront v (map encode ks) (w .left) before)
-        → BothFollow modelOf v (arrived v (map encode ks) before w g) (arrive rules (not (tooShort before)) ks s)
-    front-follows before [] h g = f
-    front-follows before (k ∷ ks) h g =
-        let d : Effect = arrivalOf slots (modelOf (s .left)) (encode k) (length before) in
-        let m : Meets v d (w .left .link) before (g .later) (g .link) (g .answer) = met (arrivalCall (encode k) before) (g .meets) in
-        let a : g .answer ≡ answerOf d = m .returns .answer in
-        let up : deliveredBy (encode k) (g .answer) ≡ deliveredWhen k d =
-        ap (deliveredBy (encode k)) a
-        ∙ ap (λ (t : Bool). cond (t && eqb (d .code) done) (deliveredPart (d .delivered) (encode k) ∷ []) []) (isData-encode k (h .0)) in
-        let dack : lostBy (isDack (encode k)) (g .answer) ≡ lostWhen (dackBit k) d =
-        ap (lostBy (isDack (encode k))) a ∙ ap (λ (t : Bool). lostWhen t d) (isDack-encode k (h .0)) in
-        let lost : lostBy (isData (encode k)) (g .answer) ≡ one (dataBit k && tooShort before) =
-        ap (lostBy (isData (encode k))) a ∙ (λ i. one (isData-encode k (h .0) i && table .refused (s .left) k (h .0) before i)) in
-        let n : ℕ = s .right .sender .lost in
-        let b : Peer = reached rules (not (tooShort before)) k (s .left) in
-        let c = table .arrival (s .left) (f .left .fits) k (h .0) before in
-        subst (BothFollow modelOf v (arrived v (map encode (k ∷ ks)) before w g)) (sym (arrive-reached rules (tooShort before) k ks s))
+    front-follows : (before : Octets) (ks : List Packet) → All Sound ks
+        → BothFollow modelOf same (tableArrived limit (map encode ks) before w) (arrive rules (not (tooShort limit before)) ks s)
+    front-follows before [] h = f
+    front-follows before (k ∷ ks) h = subst
+        (λ (m : Model). BothFollow modelOf same (front m) (arrive rules (not (tooShort limit before)) (k ∷ ks) s))
+        (sym (f .left .model))
+        (subst (BothFollow modelOf same (front (modelOf (s .left)))) (sym (arrive-reached rules (tooShort limit before) k ks s))
         (record {
-          left = follows-called m (f .left)
-              (subst (λ (t : Packets). Becomes modelOf d (s .left) b [] t (lostBy (isDack (encode k)) (g .answer))) (sym up)
-              (subst (Becomes modelOf d (s .left) b [] (deliveredWhen k d)) (sym dack) c))
-              (effect-fits (arrivalCall (encode k) before) (modelOf (s .left)) (f .left .fits));
-          right = follows-relined (f .right) (map encode ks) ks _ (cond (dataBit k && tooShort before) (suc n) n) (table .relined ks _ (s .right)) refl (h .1)
-              (one-more (dataBit k && tooShort before) n ∙ ap (λ (t : ℕ). n + t) (sym lost));
-        })
+          left = follows-called before (f .left)
+              (subst (λ (t : Packets). Becomes modelOf d (s .left) b [] t (lostBy (isDack (encode k)) (answerOf d))) (sym up)
+              (subst (Becomes modelOf d (s .left) b [] (deliveredWhen k d)) (sym dack) (table .arrival (s .left) (f .left .fits) k (h .0) before)))
+              (effect-fits limit few (arrivalCall (encode k) before) (modelOf (s .left)) (f .left .fits));
+          right = follows-relined (f .right) (map encode ks) ks _ (cond (dataBit k && tooShort limit before) (suc n) n) (table .relined ks _ (s .right)) refl (h .1)
+              (one-more (dataBit k && tooShort limit before) n ∙ ap (λ (t : ℕ). n + t) (sym lost));
+        }))
+      where
+        front : Model → World Model
+        front m = record {
+          left = tableCalled (arrivalOf limit m (encode k) (length before)) before []
+              (deliveredBy (encode k) (answerOf (arrivalOf limit m (encode k) (length before))))
+              (lostBy (isDack (encode k)) (answerOf (arrivalOf limit m (encode k) (length before))))
+              (w .left);
+          right = relined (map encode ks) (lostBy (isData (encode k)) (answerOf (arrivalOf limit m (encode k) (length before)))) (w .right);
+        }
+
+        d : Effect
+        d = arrivalOf limit (modelOf (s .left)) (encode k) (length before)
+
+        b : Peer
+        b = reached rules (not (tooShort limit before)) k (s .left)
+
+        n : ℕ
+        n = s .right .sender .lost
+
+        up : deliveredBy (encode k) (answerOf d) ≡ deliveredWhen k d
+        up = ap (λ (t : Bool). cond (t && eqb (d .code) done) (deliveredPart (d .delivered) (encode k) ∷ []) []) (isData-encode k (h .0))
+
+        dack : lostBy (isDack (encode k)) (answerOf d) ≡ lostWhen (dackBit k) d
+        dack = ap (λ (t : Bool). lostWhen t d) (isDack-encode k (h .0))
+
+        lost : lostBy (isData (encode k)) (answerOf d) ≡ one (dataBit k && tooShort limit before)
+        lost = λ i. one (isData-encode k (h .0) i && table .refused (s .left) k (h .0) before i)
 
     -- ---- a loss
     module _ (n : ℕ) where
       lost-follows : (k : Packet) → Sound k → (i j : ℕ) → i ≡ s .left .sender .lost + one (dataBit k) → j ≡ s .right .sender .lost + one (dackBit k)
-          → BothFollow modelOf v (lostAt n (some (encode k)) w)
+          → BothFollow modelOf same (lostAt n (some (encode k)) w)
           (record { left = relinedPeer (eraseAt n (s .left .line)) i (s .left); right = relinedPeer (s .right .line) j (s .right) })
       lost-follows k h i j ei ej = record {
         left = follows-relined (f .left) (eraseAt n (w .left .line)) (eraseAt n (s .left .line)) _ i (table .relined _ i (s .left))
@@ -135,7 +150,7 @@ module _ {rules : Rules} {modelOf : Peer → Model} (table : Simulates rules mod
             (ej ∙ ap (λ (b : Bool). s .right .sender .lost + one b) (sym (isDack-encode k h)));
       }
 
-      lose-follows : (k : Option Packet) → getElem? (s .left .line) n ≡ k → BothFollow modelOf v (lostAt n (Option·map encode k) w) (loseAt n k s)
+      lose-follows : (k : Option Packet) → getElem? (s .left .line) n ≡ k → BothFollow modelOf same (lostAt n (Option·map encode k) w) (loseAt n k s)
       lose-follows none e = f
       lose-follows (some (dataPdu x p)) e =
           lost-follows (dataPdu x p) (sound-at n (s .left .line) (dataPdu x p) (f .left .sound) e)
@@ -145,26 +160,24 @@ module _ {rules : Rules} {modelOf : Peer → Model} (table : Simulates rules mod
           (s .left .sender .lost) (suc (s .right .sender .lost)) (omega arith) (omega arith)
 
   -- ---- an event at the left end
-  pub step-follows : {L : Type 0} {v : L → Model} (a : Act) {w : World L} {s : Both Peer} → BothFollow modelOf v w s → (g : Given v a w)
-      → BothFollow modelOf v (after v a w g) (step rules (actOf a) s)
-  step-follows {v = v} (payload p before) {w} {s} f g =
-      subst (BothFollow modelOf v (after v (payload p before) w g)) (sym (step-offered rules (passes p before) p s))
-      (call-follows f (payloadCall p before) (acceptedBy p) (g .meets) (table .payload (s .left) p before))
-  step-follows {v = v} (timer before) {w} {s} f g =
-      subst (BothFollow modelOf v (after v (timer before) w g)) (sym (step-timedOut rules (not (tooShort before)) s))
-      (call-follows f (timerCall before) (λ _. []) (g .meets) (table .timer (s .left) (f .left .fits) before))
-  step-follows (start before) {w} {s} f g =
-      call-follows f (startCall before) (λ _. []) (g .meets) (table .start (s .left) before)
-  step-follows {v = v} (arrival before) {w} {s} f g = at-line (w .right .line) (f .right .line) g
-    where
-      at-line : (l : Packets) → l ≡ map encode (s .right .line) → (g : GivenFront v l (w .left) before)
-          → BothFollow modelOf v (arrived v l before w g) (arrive rules (not (tooShort before)) (s .right .line) s)
-      at-line l e = subst
-          (λ (l : Packets). (g : GivenFront v l (w .left) before)
-          → BothFollow modelOf v (arrived v l before w g) (arrive rules (not (tooShort before)) (s .right .line) s))
-          (sym e)
-          (front-follows f before (s .right .line) (f .right .sound))
-  step-follows {v = v} (loss n) {w} {s} f g =
-      subst (λ (q : Option Octets). BothFollow modelOf v (lostAt n q w) (loseAt n (getElem? (s .left .line) n) s))
+  step-follows : (a : Act) {w : World Model} {s : Both Peer} → BothFollow modelOf same w s → BothFollow modelOf same (tableStep limit a w) (step rules (actOf limit a) s)
+  step-follows (payload p before) {w} {s} f =
+      subst (BothFollow modelOf same (tableStep limit (payload p before) w)) (sym (step-offered rules (passes limit p before) p s))
+      (call-follows f (payloadCall p before) before (acceptedBy p) (table .payload (s .left) p before))
+  step-follows (timer before) {w} {s} f =
+      subst (BothFollow modelOf same (tableStep limit (timer before) w)) (sym (step-timedOut rules (not (tooShort limit before)) s))
+      (call-follows f (timerCall before) before (λ _. []) (table .timer (s .left) (f .left .fits) before))
+  step-follows (start before) {w} {s} f = call-follows f (startCall before) before (λ _. []) (table .start (s .left) before)
+  step-follows (arrival before) {w} {s} f =
+      subst (λ (l : Packets). BothFollow modelOf same (tableArrived limit l before w) (arrive rules (not (tooShort limit before)) (s .right .line) s))
+      (sym (f .right .line))
+      (front-follows f before (s .right .line) (f .right .sound))
+  step-follows (loss n) {w} {s} f =
+      subst (λ (q : Option Octets). BothFollow modelOf same (lostAt n q w) (loseAt n (getElem? (s .left .line) n) s))
       (sym (ap (λ (l : Packets). getElem? l n) (f .left .line) ∙ get-map encode (s .left .line) n))
       (lose-follows f n (getElem? (s .left .line) n) refl)
+
+  pub stepAt-follows : (d : Side) (a : Act) {w : World Model} {s : Both Peer} → BothFollow modelOf same w s
+      → BothFollow modelOf same (tableStepAt limit d a w) (stepAt rules d (actOf limit a) s)
+  stepAt-follows left a f = step-follows a f
+  stepAt-follows right a f = follow-mirror (step-follows a (follow-mirror f))

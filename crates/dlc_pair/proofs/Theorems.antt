@@ -42,7 +42,7 @@ pub without-loss : {L : Type 0} (v : L → Model) (l l′ : L) → v l ≡ opene
     → endAt d (final v es (initial l l′) h) .lost ≡ 0
     → DrainedAt d (final v es (initial l l′) h)
     → AllDelivered v d (final v es (initial l l′) h)
-without-loss v l l′ e e′ es h = without-loss-from simulates lawful (follow-initial opened-fits l l′ e e′) es h tt
+without-loss v l l′ e e′ es h = without-loss-from (simulates slots) lawful (follow-initial opened-fits l l′ e e′) es h tt
 
 -- once both lines are empty: one timer call, at least as many arrivals at the other end as payloads are queued, and at least as many at this
 -- end; every reply buffer is large enough and nothing is lost
@@ -57,7 +57,7 @@ pub progress : {L : Type 0} (v : L → Model) (l l′ : L) → v l ≡ opened �
     → length bs ≤ length cs
     → (more : History v (exchange d b bs cs) (final v es (initial l l′) h))
     → Settled v d (final v es (initial l l′) h) (final v (exchange d b bs cs) (final v es (initial l l′) h) more)
-progress v l l′ e e′ es h = progress-from simulates lawful (follow-initial opened-fits l l′ e e′) es h
+progress v l l′ e e′ es h = progress-from (simulates slots) lawful (follow-initial opened-fits l l′ e e′) es h
 
 -- whatever is on the lines and in the queues: arrivals of what is on the lines, and an exchange of each end; every reply buffer is large enough
 -- and nothing is lost. n is at least the packets on either line, and the slots of a queue
@@ -69,4 +69,4 @@ pub recovers : {L : Type 0} (v : L → Model) (l l′ : L) → v l ≡ opened �
     → slots ≤ n
     → (more : History v (recovery b n) (final v es (initial l l′) h))
     → Recovered v (final v es (initial l l′) h) (final v (recovery b n) (final v es (initial l l′) h) more)
-recovers v l l′ e e′ es h = recovers-from simulates lawful (follow-initial opened-fits l l′ e e′) es h
+recovers v l l′ e e′ es h = recovers-from (simulates slots) lawful (follow-initial opened-fits l l′ e e′) es h

@@ -1,6 +1,7 @@
 -- Every list of events at one end has a history: there is always something that a call may give back, whatever the calls before it gave back. The links
 -- given back here are values that the code can hold. For every type of links in which each `Link` has a value (`Covers`), from every link whose model
 -- fits, a fresh one among them. Assumes nothing.
+use native.Mathlib.Omega.{arith}
 use mathlib.Core.Path.{_≡_, refl, sym, ap, subst, _∙_}
 use mathlib.Core.Bool.{Bool, true, false, false≢true}
 use mathlib.Core.List.{List, [], _∷_, flatten}
@@ -37,7 +38,7 @@ reply d l before r e kept = record {
 -- ---- whatever the calls gave back, the links fit
 module _ {L : Type 0} (v : L → Model) where
   pub link-fits : (e : Event) (l : L) (g : Reply (Contract v e l)) → Fits (v l) → Fits (v (g .link))
-  link-fits e l g f = subst Fits (sym (link-by-the-table v e l g)) (effect-fits e (v l) f)
+  link-fits e l g f = subst Fits (sym (link-by-the-table v e l g)) (effect-fits slots (omega arith) e (v l) f)
 
   pub run-fits : (es : List Event) (l : L) (h : History v es l) → Fits (v l) → Fits (v (final v es l h))
   run-fits [] l h f = f
@@ -56,7 +57,7 @@ module _ {L : Type 0} {v : L → Model} (covers : Covers v) where
       by-refusal : (t : Bool) → refuses (effectOf slots e (v l) .code) ≡ t → Reply (Meets v (effectOf slots e (v l)) l (bufferOf e))
       by-refusal true z = reply _ l (bufferOf e) l (sym (ap (λ (d : Effect). d .after) (effect-refused slots e (v l) z))) (λ _. refl)
       by-refusal false z =
-          let r = value-of (effectOf slots e (v l) .after) (effect-fits e (v l) f) in
+          let r = value-of (effectOf slots e (v l) .after) (effect-fits slots (omega arith) e (v l) f) in
           reply _ l (bufferOf e) (r .0) (r .1) (λ t. absurd (false≢true (sym z ∙ t)))
 
   pub reply-exists : (e : Event) (l : L) → Fits (v l) → Reply (Contract v e l)

@@ -1,4 +1,5 @@
--- An event leaves a model that a link can hold such, whatever is lent to it. Assumes nothing.
+-- An event leaves a model that a link can hold such, whatever is lent to it; by the table of as many places as a queue has slots, or of fewer.
+-- Assumes nothing.
 use Prim.Native.Nat.{ℕ, _<_, _≤_}
 use native.Mathlib.Omega.{arith}
 use mathlib.Core.Path.{_≡_, refl}
@@ -47,8 +48,8 @@ module _ (m : Model) (f : Fits m) where
       fits-rebuilt m f Wait q (m .base) (m .expected)
       (omega (arith, n, k)) (short-queued (m .queue) p (f .short) h) (f .base) (f .expected) (lt-ltb 0 (length q) (omega (arith, n)))
 
-  entries : Entries slots m (λ (d : Effect). Fits (d .after))
-  entries = record {
+  entries : (limit : ℕ) → limit ≤ slots → Entries limit m (λ (d : Effect). Fits (d .after))
+  entries limit h = record {
     refused = λ c e o. f;
     clears = fits-rebuilt m f Data [] 0 0 (omega arith) tt (omega arith) (omega arith) refl;
     starts = λ s. in-state Reset (rw s at (f .state));
@@ -58,8 +59,8 @@ module _ (m : Model) (f : Fits m) where
     removes = λ n s l h. fewer n;
     asks = λ s. f;
     sends = λ s. f;
-    queues = λ p o h k. more p h k;
+    queues = λ p o l k. more p l (omega (arith, h, k));
   }
 
-pub effect-fits : (e : Event) (m : Model) → Fits m → Fits (effectOf slots e m .after)
-effect-fits e m f = event-entries (entries m f) e
+pub effect-fits : (limit : ℕ) → limit ≤ slots → (e : Event) (m : Model) → Fits m → Fits (effectOf limit e m .after)
+effect-fits limit h e m f = event-entries (entries m f limit h) e

@@ -28,13 +28,13 @@ pub loss-nothing : {L : Type 0} (v : L → Model) (l l′ : L) (n : ℕ) → aft
 loss-nothing v l l′ n = refl
 
 -- ---- what a run gives, of every history of its events; of whatever rules and models the step table simulates
-module _ {rules : Rules} {modelOf : Peer → Model} (table : Simulates rules modelOf) {L : Type 0} (v : L → Model) (l l′ : L)
+module _ {rules : Rules} {modelOf : Peer → Model} (table : Simulates slots rules modelOf) {L : Type 0} (v : L → Model) (l l′ : L)
     (e : v l ≡ modelOf fresh) (e′ : v l′ ≡ modelOf fresh) (es : List Event) (h : History v es (initial l l′)) where
-  followed : BothFollow modelOf v (final v es (initial l l′) h) (runOf rules es packetStart)
+  followed : BothFollow modelOf v (final v es (initial l l′) h) (runOf slots rules es packetStart)
   followed = run-follows table es (follow-initial (table .holds) l l′ e e′) h
 
-  waited : (d : Side) → T (timerWaits rules d (map eventOf es) packetStart) → TimerWaits v d es (initial l l′) h
-  waited d t = timerWaits-back table d es (follow-initial (table .holds) l l′ e e′) h (timerWaits-true rules d (map eventOf es) packetStart t)
+  waited : (d : Side) → T (timerWaits rules d (map (eventOf slots) es) packetStart) → TimerWaits v d es (initial l l′) h
+  waited d t = timerWaits-back table d es (follow-initial (table .holds) l l′ e e′) h (timerWaits-true rules d (map (eventOf slots) es) packetStart t)
 
 -- ---- events
 abbrev buffer : Octets
@@ -81,14 +81,14 @@ three-queues = refl
 
 pub worked : {L : Type 0} (v : L → Model) (l l′ : L) → v l ≡ opened → v l′ ≡ opened → (h : History v workedEvents (initial l l′)) → Worked v l l′ h
 worked v l l′ e e′ h =
-    let f = followed simulates v l l′ e e′ workedEvents h in
+    let f = followed (simulates slots) v l l′ e e′ workedEvents h in
     record {
       accepted = f .left .accepted ∙ three-queues;
       delivered = f .right .delivered ∙ three-queues;
       sent = f .left .sent;
       lost = f .left .lost;
       base = ap (λ (m : Model). m .base) (f .left .model);
-      waits = waited simulates v l l′ e e′ workedEvents h left tt;
+      waits = waited (simulates slots) v l l′ e e′ workedEvents h left tt;
     }
 
 -- ---- the queue is filled, each payload sent as it is accepted, and the first is lost; the others are answered by 25, and the timer sends all again:
@@ -110,13 +110,13 @@ pub record Tight {L : Type 0} (v : L → Model) (l l′ : L) (h : History v tigh
 
 pub tight : {L : Type 0} (v : L → Model) (l l′ : L) → v l ≡ opened → v l′ ≡ opened → (h : History v tightEvents (initial l l′)) → Tight v l l′ h
 tight v l l′ e e′ h =
-    let f = followed simulates v l l′ e e′ tightEvents h in
+    let f = followed (simulates slots) v l l′ e e′ tightEvents h in
     record {
       sent = f .left .sent;
       accepted = f .left .accepted;
       lost = f .left .lost;
       bound = f .left .sent ∙ sym (λ i. length (f .left .accepted i) + slots * f .left .lost i);
-      waits = waited simulates v l l′ e e′ tightEvents h left tt;
+      waits = waited (simulates slots) v l l′ e e′ tightEvents h left tt;
     }
 
 -- ---- both ends send, and each end's DATA is lost once. Each timer is called while the other end's DATA is on the line, and its premise holds: it
@@ -147,7 +147,7 @@ pub record Duplex {L : Type 0} (v : L → Model) (l l′ : L) (h : History v dup
 
 pub duplex : {L : Type 0} (v : L → Model) (l l′ : L) → v l ≡ opened → v l′ ≡ opened → (h : History v duplexEvents (initial l l′)) → Duplex v l l′ h
 duplex v l l′ e e′ h =
-    let f = followed simulates v l l′ e e′ duplexEvents h in
+    let f = followed (simulates slots) v l l′ e e′ duplexEvents h in
     record {
       leftToRight = f .right .delivered;
       rightToLeft = f .left .delivered;
@@ -155,6 +155,6 @@ duplex v l l′ e e′ h =
       leftLost = f .left .lost;
       rightSent = f .right .sent;
       rightLost = f .right .lost;
-      leftWaits = waited simulates v l l′ e e′ duplexEvents h left tt;
-      rightWaits = waited simulates v l l′ e e′ duplexEvents h right tt;
+      leftWaits = waited (simulates slots) v l l′ e e′ duplexEvents h left tt;
+      rightWaits = waited (simulates slots) v l l′ e e′ duplexEvents h right tt;
     }
