@@ -1,15 +1,16 @@
 -- The world of demand 3 is the step table's, of as many places as the queue has slots: whatever the calls of a history gave back under their contracts,
 -- what is seen of the world after it is the table's run of its events (specs/TableRun). So what is proved of the table's runs holds of histories. Assumes nothing.
-use Prim.Native.Nat.{ℕ}
+use Prim.Native.Nat.{ℕ, _+_}
 use mathlib.Core.Path.{_≡_, refl, ap, _∙_}
 use mathlib.Core.Option.{Option, none, some}
-use mathlib.Core.List.{List, [], _∷_}
+use mathlib.Core.List.{List, [], _∷_, _++_}
 use lib.ListN.{getElem?}
 use Rattle.dlc_table.specs.Model.{Model}
 use Rattle.dlc_table.specs.Events.{Effect}
 use Rattle.dlc_answer.specs.declared.Answer.{Answer}
 use Rattle.dlc.specs.Limits.{slots}
 use Rattle.dlc.specs.Calls.{answerOf, Meets}
+use Rattle.dlc_run.proofs.Copied.{copiedBy-packets}
 use Rattle.dlc_run.specs.Replies.{Octets, Packets, isData, isDack, acceptedBy, deliveredBy}
 use Rattle.window.specs.Sides.{Side, left, right, mirror}
 use Rattle.dlc_pair.specs.World.{End, World}
@@ -23,10 +24,18 @@ module _ {L : Type 0} (v : L → Model) where
   module _ (e : End L) (accepted delivered : Answer → Packets) (lost : Answer → ℕ) where
     call-seen : {d : Effect} {before later : Octets} {r : L} {a : Answer} → Meets v d (e .link) before later r a
         → seenEnd v (called r a later (accepted a) (delivered a) (lost a) e)
-        ≡ tableCalled d before (accepted (answerOf d)) (delivered (answerOf d)) (lost (answerOf d)) (seenEnd v e)
+        ≡ tableCalled d (accepted (answerOf d)) (delivered (answerOf d)) (lost (answerOf d)) (seenEnd v e)
     call-seen m = λ i.
         let a = m .returns .answer i in
-        called (m .returns .link i) a (m .reply i) (accepted a) (delivered a) (lost a) (seenEnd v e)
+        record {
+          link = m .returns .link i;
+          line = e .line ++ copiedBy-packets m i;
+          copied = e .copied ++ copiedBy-packets m i;
+          accepted = e .accepted ++ accepted a;
+          delivered = e .delivered ++ delivered a;
+          lost = e .lost + lost a;
+          answers = e .answers ++ (a .code ∷ []);
+        }
 
   -- ---- an event at the left end
   arrived-seen : (l : Packets) (before : Octets) (w : World L) (g : GivenFront v l (w .left) before)

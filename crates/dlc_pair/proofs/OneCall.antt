@@ -3,16 +3,13 @@ use Prim.Native.Nat.{ℕ, _+_, _<_}
 use native.Mathlib.Nat.{add-zero}
 use mathlib.Core.Path.{_≡_, refl, sym, ap, subst, _∙_}
 use mathlib.Core.Logic.{_≢_}
-use mathlib.Core.List.{List, [], _∷_, _++_, map, map-append, append-nil, flatten}
-use Rattle.common.specs.Buffer.{withFront}
+use mathlib.Core.List.{List, [], _∷_, _++_, map, map-append, append-nil}
 use Rattle.dlc_table.specs.Answers.{badLink}
 use Rattle.dlc_table.specs.Model.{Model}
 use Rattle.dlc_table.specs.Events.{Effect, refuse}
 use Rattle.dlc.specs.Limits.{modulus, dackPacket}
-use Rattle.dlc.specs.Calls.{answerOf}
 use Rattle.dlc.proofs.Values.{Fits}
-use Rattle.dlc_run.proofs.Copied.{packetsIn-flatten}
-use Rattle.dlc_run.specs.Replies.{Octets, Packets, isData, copiedBy, Never}
+use Rattle.dlc_run.specs.Replies.{Packets, isData, Never}
 use Rattle.window.specs.Packets.{Packet, dackPdu, countData}
 use Rattle.window.specs.Ends.{Rules, End as Peer, Sender, Receiver, withSender, answering}
 use Rattle.window.proofs.InFlight.{All, all-++}
@@ -39,20 +36,18 @@ never-snoc c [] x n h = (h, tt)
 never-snoc c (y ∷ xs) x n h = (n .0, never-snoc c xs x (n .1) h)
 
 -- an end whose call does what the table says
-pub follows-called : {modelOf : Peer → Model} {d : Effect} (before : Octets) {e : End Model} {a b : Peer} {accepted delivered : Packets} {n : ℕ}
+pub follows-called : {modelOf : Peer → Model} {d : Effect} {e : End Model} {a b : Peer} {accepted delivered : Packets} {n : ℕ}
     → Follows modelOf same e a
     → Becomes modelOf d a b accepted delivered n
     → Fits (d .after)
-    → Follows modelOf same (tableCalled d before accepted delivered n e) b
-follows-called {d = d} before {e} {a} {b} {accepted} {delivered} {n} f c fits =
-    let later : Octets = withFront (flatten (d .packets)) before in
-    let p : copiedBy (answerOf d) later ≡ map encode (c .sends) = packetsIn-flatten (d .packets) _ _ ∙ c .packets in
+    → Follows modelOf same (tableCalled d accepted delivered n e) b
+follows-called {d = d} {e} {a} {b} {accepted} {delivered} {n} f c fits =
     record {
       model = c .model;
-      line = (λ i. f .line i ++ p i) ∙ sym (map-append encode (a .line) (c .sends)) ∙ ap (map encode) (sym (c .line));
+      line = (λ i. f .line i ++ c .packets i) ∙ sym (map-append encode (a .line) (c .sends)) ∙ ap (map encode) (sym (c .line));
       accepted = ap (λ (t : Packets). t ++ accepted) (f .accepted) ∙ sym (c .accepts);
       delivered = ap (λ (t : Packets). t ++ delivered) (f .delivered) ∙ sym (c .delivers);
-      sent = count-++ isData (e .copied) (copiedBy (answerOf d) later) ∙ (λ i. f .sent i + (ap (count isData) p ∙ count-data (c .sends) (c .sound)) i) ∙ sym (c .sent);
+      sent = count-++ isData (e .copied) (d .packets) ∙ (λ i. f .sent i + (ap (count isData) (c .packets) ∙ count-data (c .sends) (c .sound)) i) ∙ sym (c .sent);
       lost = ap (λ (t : ℕ). t + n) (f .lost) ∙ sym (c .loses);
       never = never-snoc badLink (e .answers) (d .code) (f .never) (c .code);
       fits = subst Fits (c .model) fits;

@@ -76,19 +76,19 @@ sound-at (suc n) (j ∷ ks) k h e = sound-at n ks k (h .1) e
 module _ {limit : ℕ} (few : limit ≤ slots) {rules : Rules} {modelOf : Peer → Model} (table : Simulates limit rules modelOf) where
   module _ {w : World Model} {s : Both Peer} (f : BothFollow modelOf same w s) where
     -- ---- a call that brings no packet: the left end comes to b, and accepts what its answer says
-    call-follows : (e : Call) (before : Octets) (accepted : Answer → Packets) {b : Peer}
+    call-follows : (e : Call) (accepted : Answer → Packets) {b : Peer}
         → Becomes modelOf (effectOf limit e (modelOf (s .left))) (s .left) b (accepted (answerOf (effectOf limit e (modelOf (s .left))))) [] 0
         → BothFollow modelOf same
         (record {
-          left = tableCalled (effectOf limit e (w .left .link)) before (accepted (answerOf (effectOf limit e (w .left .link)))) [] 0 (w .left);
+          left = tableCalled (effectOf limit e (w .left .link)) (accepted (answerOf (effectOf limit e (w .left .link)))) [] 0 (w .left);
           right = w .right;
         })
         (record { left = b; right = s .right })
-    call-follows e before accepted {b} c = record {
+    call-follows e accepted {b} c = record {
       left = subst
-          (λ (m : Model). Follows modelOf same (tableCalled (effectOf limit e m) before (accepted (answerOf (effectOf limit e m))) [] 0 (w .left)) b)
+          (λ (m : Model). Follows modelOf same (tableCalled (effectOf limit e m) (accepted (answerOf (effectOf limit e m))) [] 0 (w .left)) b)
           (sym (f .left .model))
-          (follows-called before (f .left) c (effect-fits limit few e (modelOf (s .left)) (f .left .fits)));
+          (follows-called (f .left) c (effect-fits limit few e (modelOf (s .left)) (f .left .fits)));
       right = f .right;
     }
 
@@ -101,7 +101,7 @@ module _ {limit : ℕ} (few : limit ≤ slots) {rules : Rules} {modelOf : Peer �
         (sym (f .left .model))
         (subst (BothFollow modelOf same (front (modelOf (s .left)))) (sym (arrive-reached rules (tooShort limit before) k ks s))
         (record {
-          left = follows-called before (f .left)
+          left = follows-called (f .left)
               (subst (λ (t : Packets). Becomes modelOf d (s .left) b [] t (lostBy (isDack (encode k)) (answerOf d))) (sym up)
               (subst (Becomes modelOf d (s .left) b [] (deliveredWhen k d)) (sym dack) (table .arrival (s .left) (f .left .fits) k (h .0) before)))
               (effect-fits limit few (arrivalCall (encode k) before) (modelOf (s .left)) (f .left .fits));
@@ -111,7 +111,7 @@ module _ {limit : ℕ} (few : limit ≤ slots) {rules : Rules} {modelOf : Peer �
       where
         front : Model → World Model
         front m = record {
-          left = tableCalled (arrivalOf limit m (encode k) (length before)) before []
+          left = tableCalled (arrivalOf limit m (encode k) (length before)) []
               (deliveredBy (encode k) (answerOf (arrivalOf limit m (encode k) (length before))))
               (lostBy (isDack (encode k)) (answerOf (arrivalOf limit m (encode k) (length before))))
               (w .left);
@@ -163,11 +163,11 @@ module _ {limit : ℕ} (few : limit ≤ slots) {rules : Rules} {modelOf : Peer �
   step-follows : (a : Act) {w : World Model} {s : Both Peer} → BothFollow modelOf same w s → BothFollow modelOf same (tableStep limit a w) (step rules (actOf limit a) s)
   step-follows (payload p before) {w} {s} f =
       subst (BothFollow modelOf same (tableStep limit (payload p before) w)) (sym (step-offered rules (passes limit p before) p s))
-      (call-follows f (payloadCall p before) before (acceptedBy p) (table .payload (s .left) p before))
+      (call-follows f (payloadCall p before) (acceptedBy p) (table .payload (s .left) p before))
   step-follows (timer before) {w} {s} f =
       subst (BothFollow modelOf same (tableStep limit (timer before) w)) (sym (step-timedOut rules (not (tooShort limit before)) s))
-      (call-follows f (timerCall before) before (λ _. []) (table .timer (s .left) (f .left .fits) before))
-  step-follows (start before) {w} {s} f = call-follows f (startCall before) before (λ _. []) (table .start (s .left) before)
+      (call-follows f (timerCall before) (λ _. []) (table .timer (s .left) (f .left .fits) before))
+  step-follows (start before) {w} {s} f = call-follows f (startCall before) (λ _. []) (table .start (s .left) before)
   step-follows (arrival before) {w} {s} f =
       subst (λ (l : Packets). BothFollow modelOf same (tableArrived limit l before w) (arrive rules (not (tooShort limit before)) (s .right .line) s))
       (sym (f .right .line))

@@ -6,21 +6,28 @@
 --   InOrder limit          whether from two open ends, whatever the events, each end delivers an initial part of what was accepted at the other
 --
 -- The world is that of demand 3, with models for its links: a model has no free slots, so nothing is left open and a list of events has one run.
-use Prim.Native.Nat.{ℕ}
-use mathlib.Core.List.{List, [], _∷_, flatten, IsPrefix}
+use Prim.Native.Nat.{ℕ, _+_}
+use mathlib.Core.List.{List, [], _∷_, _++_, IsPrefix}
 use lib.ListN.{length, getElem?}
-use Rattle.common.specs.Buffer.{withFront}
 use Rattle.dlc_table.specs.Model.{Model, opened}
 use Rattle.dlc_table.specs.Events.{Effect, startOf, timerOf, payloadOf, arrivalOf}
 use Rattle.dlc.specs.Calls.{answerOf}
 use Rattle.dlc_run.specs.Replies.{Octets, Packets, isData, isDack, acceptedBy, deliveredBy}
 use Rattle.window.specs.Sides.{Side, left, right, mirror}
 use Rattle.dlc_pair.specs.World.{End, World, initial}
-use Rattle.dlc_pair.specs.History.{Act, payload, timer, start, arrival, loss, Event, called, relined, lostBy, lostAt}
+use Rattle.dlc_pair.specs.History.{Act, payload, timer, start, arrival, loss, Event, relined, lostBy, lostAt}
 
--- an end after a call with this effect: its link, its answer, and the reply buffer with the packets at its front
-abbrev pub tableCalled : Effect → Octets → Packets → Packets → ℕ → End Model → End Model
-tableCalled d before accepted delivered n e = called (d .after) (answerOf d) (withFront (flatten (d .packets)) before) accepted delivered n e
+-- an end after a call with this effect: the payloads newly accepted and delivered, and how many packets that count for it were lost
+abbrev pub tableCalled : Effect → Packets → Packets → ℕ → End Model → End Model
+tableCalled d accepted delivered n e = record {
+  link = d .after;
+  line = e .line ++ d .packets;
+  copied = e .copied ++ d .packets;
+  accepted = e .accepted ++ accepted;
+  delivered = e .delivered ++ delivered;
+  lost = e .lost + n;
+  answers = e .answers ++ (d .code ∷ []);
+}
 
 module _ (limit : ℕ) where
   -- an arrival at the left end, by the right end's line
@@ -29,7 +36,7 @@ module _ (limit : ℕ) where
   tableArrived (q ∷ qs) before w =
       let d = arrivalOf limit (w .left .link) q (length before) in
       record {
-        left = tableCalled d before [] (deliveredBy q (answerOf d)) (lostBy (isDack q) (answerOf d)) (w .left);
+        left = tableCalled d [] (deliveredBy q (answerOf d)) (lostBy (isDack q) (answerOf d)) (w .left);
         right = relined qs (lostBy (isData q) (answerOf d)) (w .right);
       }
 
@@ -37,9 +44,9 @@ module _ (limit : ℕ) where
   abbrev pub tableStep : Act → World Model → World Model
   tableStep (payload p before) w =
       let d = payloadOf limit (w .left .link) p (length before) in
-      record { left = tableCalled d before (acceptedBy p (answerOf d)) [] 0 (w .left); right = w .right }
-  tableStep (timer before) w = record { left = tableCalled (timerOf limit (w .left .link) (length before)) before [] [] 0 (w .left); right = w .right }
-  tableStep (start before) w = record { left = tableCalled (startOf limit (w .left .link) (length before)) before [] [] 0 (w .left); right = w .right }
+      record { left = tableCalled d (acceptedBy p (answerOf d)) [] 0 (w .left); right = w .right }
+  tableStep (timer before) w = record { left = tableCalled (timerOf limit (w .left .link) (length before)) [] [] 0 (w .left); right = w .right }
+  tableStep (start before) w = record { left = tableCalled (startOf limit (w .left .link) (length before)) [] [] 0 (w .left); right = w .right }
   tableStep (arrival before) w = tableArrived (w .right .line) before w
   tableStep (loss n) w = lostAt n (getElem? (w .left .line) n) w
 

@@ -1,2 +1,3 @@
 pub mod Worked
+pub mod Larger
 pub mod Sixteen

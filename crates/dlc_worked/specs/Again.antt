@@ -8,6 +8,7 @@
 use Prim.Native.Nat.{ℕ, _*_}
 use mathlib.Core.List.{List, [], _∷_, _++_}
 use lib.ListN.{replicate}
+use Rattle.dlc_packet.specs.Numbers.{modulus}
 use Rattle.dlc_packet.specs.Packet.{maxPacket}
 use Rattle.dlc_table.specs.Model.{Model, opened}
 use Rattle.dlc_run.specs.Replies.{Octets}
@@ -18,7 +19,7 @@ use Rattle.dlc_worked.specs.Script.{at, payloadsFrom, offered, arrivals}
 
 -- as many places as there are numbers
 abbrev pub tooMany : ℕ
-tooMany = 16
+tooMany = modulus
 
 -- a reply buffer that is long enough for so many
 abbrev pub buffer : Octets
