@@ -59,6 +59,14 @@ module _ {rules : Rules} {modelOf : Peer → Model} (table : Simulates slots rul
         rightToLeft = one-way (last .right) (last .left) (timerWaits-follow table right es f h) (c .rightToLeft);
       }
 
+-- ---- of the step table by itself
+-- with any limit of places below the numbers that there are, demand 3's first part holds of its runs
+pub in-order : (limit : ℕ) → limit < modulus → InOrder limit
+in-order limit h es =
+    let f = table-follows (omega (arith, h)) (simulates limit) es (follow-initial opened-fits opened opened refl refl) in
+    let c = sliding-window (rules limit) (lawful-below limit h) (map (eventOf limit) es) in
+    (prefix-follows (f .left) (f .right) (c .leftToRight .prefix), prefix-follows (f .right) (f .left) (c .rightToLeft .prefix))
+
 -- ---- of this link
 abbrev pub BothFollow : {L : Type 0} → (L → Model) → World L → Both Peer → Type 0
 BothFollow v w s = BothFollowBy modelOf v w s
@@ -71,11 +79,3 @@ demand-three-from f es h = demand-three-by (simulates slots) lawful f es h
 pub demand-three : {L : Type 0} (v : L → Model) (l l′ : L) → v l ≡ opened → v l′ ≡ opened → (es : List Event) (h : History v es (initial l l′))
     → Demand3 v es (initial l l′) h
 demand-three v l l′ e e′ es h = demand-three-from (follow-initial opened-fits l l′ e e′) es h
-
--- ---- of the step table by itself
--- with any limit of places below the numbers that there are, demand 3's first part holds of its runs
-pub in-order : (limit : ℕ) → limit < modulus → InOrder limit
-in-order limit h es =
-    let f = table-follows (omega (arith, h)) (simulates limit) es (follow-initial opened-fits opened opened refl refl) in
-    let c = sliding-window (rules limit) (lawful-below limit h) (map (eventOf limit) es) in
-    (prefix-follows (f .left) (f .right) (c .leftToRight .prefix), prefix-follows (f .right) (f .left) (c .rightToLeft .prefix))

@@ -89,6 +89,6 @@ pub fifteen-delivered : tableRun slots (again slots) openEnds .right .delivered 
 unfolding timerOf payloadOf arrivalOf
 fifteen-delivered = refl
 
-pub repeat-refused : tableRun slots (again slots) openEnds .right .answers ≡ replicate slots done ++ (otherNumber ∷ [])
+pub repeat-answered : tableRun slots (again slots) openEnds .right .answers ≡ replicate slots done ++ (otherNumber ∷ [])
 unfolding timerOf payloadOf arrivalOf
-repeat-refused = refl
+repeat-answered = refl
