@@ -24,8 +24,8 @@ use Rattle.window.specs.Events.{Act as PacketAct, offer, timeout, receive, lose
 use Rattle.window.proofs.InFlight.{All, all-eraseAt, map-eraseAt}
 use Rattle.window.proofs.Marks.{get-map}
 use Rattle.dlc_pair.specs.World.{one, World}
-use Rattle.dlc_pair.specs.History.{Act, payload, timer, start, arrival, loss, relined, lostBy, lostAt}
-use Rattle.dlc_pair.specs.TableRun.{tableCalled, tableArrived, tableStep, tableStepAt}
+use Rattle.dlc_pair.specs.History.{Act, payload, timer, start, arrival, loss, lostBy, lostAt}
+use Rattle.dlc_pair.specs.TableRun.{tableCalled, tableOffered, tableReached, tableArrived, tableStep, tableStepAt}
 use Rattle.dlc_pair.proofs.Codec.{encode, Sound, dataBit, dackBit, isData-encode, isDack-encode}
 use Rattle.dlc_pair.proofs.Relation.{Follows, BothFollow, follow-mirror, relinedPeer, follows-relined, same}
 use Rattle.dlc_pair.proofs.OneCall.{Becomes, follows-called}
@@ -78,11 +78,7 @@ module _ {limit : ℕ} (few : limit ≤ slots) {rules : Rules} {modelOf : Peer �
     -- ---- a call that brings no packet: the left end comes to b, and accepts what its answer says
     call-follows : (e : Call) (accepted : Answer → Packets) {b : Peer}
         → Becomes modelOf (effectOf limit e (modelOf (s .left))) (s .left) b (accepted (answerOf (effectOf limit e (modelOf (s .left))))) [] 0
-        → BothFollow modelOf same
-        (record {
-          left = tableCalled (effectOf limit e (w .left .link)) (accepted (answerOf (effectOf limit e (w .left .link)))) [] 0 (w .left);
-          right = w .right;
-        })
+        → BothFollow modelOf same (tableOffered (effectOf limit e (w .left .link)) (accepted (answerOf (effectOf limit e (w .left .link)))) w)
         (record { left = b; right = s .right })
     call-follows e accepted {b} c = record {
       left = subst
@@ -110,13 +106,7 @@ module _ {limit : ℕ} (few : limit ≤ slots) {rules : Rules} {modelOf : Peer �
         }))
       where
         front : Model → World Model
-        front m = record {
-          left = tableCalled (arrivalOf limit m (encode k) (length before)) []
-              (deliveredBy (encode k) (answerOf (arrivalOf limit m (encode k) (length before))))
-              (lostBy (isDack (encode k)) (answerOf (arrivalOf limit m (encode k) (length before))))
-              (w .left);
-          right = relined (map encode ks) (lostBy (isData (encode k)) (answerOf (arrivalOf limit m (encode k) (length before)))) (w .right);
-        }
+        front m = tableReached (arrivalOf limit m (encode k) (length before)) (encode k) (map encode ks) w
 
         d : Effect
         d = arrivalOf limit (modelOf (s .left)) (encode k) (length before)

@@ -29,24 +29,30 @@ tableCalled d accepted delivered n e = record {
   answers = e .answers ++ (d .code ∷ []);
 }
 
+-- the world after a call at the left end that brings no packet
+abbrev pub tableOffered : Effect → Packets → World Model → World Model
+tableOffered d accepted w = record { left = tableCalled d accepted [] 0 (w .left); right = w .right }
+
+-- and after the packet q has arrived there; qs are left on the right end's line
+abbrev pub tableReached : Effect → Octets → Packets → World Model → World Model
+tableReached d q qs w = record {
+  left = tableCalled d [] (deliveredBy q (answerOf d)) (lostBy (isDack q) (answerOf d)) (w .left);
+  right = relined qs (lostBy (isData q) (answerOf d)) (w .right);
+}
+
 module _ (limit : ℕ) where
   -- an arrival at the left end, by the right end's line
   abbrev pub tableArrived : Packets → Octets → World Model → World Model
   tableArrived [] before w = w
-  tableArrived (q ∷ qs) before w =
-      let d = arrivalOf limit (w .left .link) q (length before) in
-      record {
-        left = tableCalled d [] (deliveredBy q (answerOf d)) (lostBy (isDack q) (answerOf d)) (w .left);
-        right = relined qs (lostBy (isData q) (answerOf d)) (w .right);
-      }
+  tableArrived (q ∷ qs) before w = tableReached (arrivalOf limit (w .left .link) q (length before)) q qs w
 
   -- an event at the left end
   abbrev pub tableStep : Act → World Model → World Model
   tableStep (payload p before) w =
       let d = payloadOf limit (w .left .link) p (length before) in
-      record { left = tableCalled d (acceptedBy p (answerOf d)) [] 0 (w .left); right = w .right }
-  tableStep (timer before) w = record { left = tableCalled (timerOf limit (w .left .link) (length before)) [] [] 0 (w .left); right = w .right }
-  tableStep (start before) w = record { left = tableCalled (startOf limit (w .left .link) (length before)) [] [] 0 (w .left); right = w .right }
+      tableOffered d (acceptedBy p (answerOf d)) w
+  tableStep (timer before) w = tableOffered (timerOf limit (w .left .link) (length before)) [] w
+  tableStep (start before) w = tableOffered (startOf limit (w .left .link) (length before)) [] w
   tableStep (arrival before) w = tableArrived (w .right .line) before w
   tableStep (loss n) w = lostAt n (getElem? (w .left .line) n) w
 
@@ -59,7 +65,11 @@ module _ (limit : ℕ) where
   tableRun [] w = w
   tableRun (e ∷ es) w = tableRun es (tableStepAt (e .side) (e .act) w)
 
+-- two ends as demand 3 has them at the start
+abbrev pub openEnds : World Model
+openEnds = initial opened opened
+
 -- demand 3's first part, as a claim about the table with this limit
 abbrev pub InOrder : ℕ → Type 0
-InOrder limit = (es : List Event) → IsPrefix (tableRun limit es (initial opened opened) .right .delivered) (tableRun limit es (initial opened opened) .left .accepted)
-    × IsPrefix (tableRun limit es (initial opened opened) .left .delivered) (tableRun limit es (initial opened opened) .right .accepted)
+InOrder limit = (es : List Event) → IsPrefix (tableRun limit es openEnds .right .delivered) (tableRun limit es openEnds .left .accepted)
+    × IsPrefix (tableRun limit es openEnds .left .delivered) (tableRun limit es openEnds .right .accepted)

@@ -13,11 +13,11 @@ use Rattle.dlc_packet.specs.Packet.{maxPacket}
 use Rattle.dlc_table.specs.Model.{Model}
 use Rattle.dlc_table.specs.Events.{Effect, startOf, timerOf, payloadOf, arrivalOf}
 use Rattle.dlc.specs.Calls.{answerOf}
-use Rattle.dlc_run.specs.Replies.{Octets, Packets, isData, isDack, acceptedBy, deliveredBy}
+use Rattle.dlc_run.specs.Replies.{Octets, Packets, acceptedBy}
 use Rattle.window.specs.Sides.{Side, left, right, mirror, endAt}
 use Rattle.dlc_pair.specs.World.{End, World}
-use Rattle.dlc_pair.specs.History.{Act, payload, timer, start, arrival, loss, Event, relined, lostBy}
-use Rattle.dlc_pair.specs.TableRun.{tableCalled, tableArrived, tableStep, tableStepAt, tableRun}
+use Rattle.dlc_pair.specs.History.{Act, payload, timer, start, arrival, loss, Event}
+use Rattle.dlc_pair.specs.TableRun.{tableOffered, tableReached, tableArrived, tableStep, tableStepAt, tableRun}
 
 -- events with this reply buffer in place of their own
 abbrev relent : Octets → Act → Act
@@ -68,12 +68,7 @@ module _ (places limit : ℕ) (more : places ≤ limit) (b : Octets) (h : limit 
 
   arrived-alike : (l : Packets) (before : Octets) → places * maxPacket ≤ length before → (w : World Model) → tableArrived limit l b w ≡ tableArrived places l before w
   arrived-alike [] before k w = refl
-  arrived-alike (q ∷ qs) before k w = ap
-      (λ (d : Effect). record {
-        left = tableCalled d [] (deliveredBy q (answerOf d)) (lostBy (isDack q) (answerOf d)) (w .left);
-        right = relined qs (lostBy (isData q) (answerOf d)) (w .right);
-      })
-      (arrival-alike (w .left .link) (length before) k q)
+  arrived-alike (q ∷ qs) before k w = ap (λ (d : Effect). tableReached d q qs w) (arrival-alike (w .left .link) (length before) k q)
 
   room : (before : Octets) → hasRoom places before ≡ true → places * maxPacket ≤ length before
   room before t = leb-true (places * maxPacket) (length before) t
@@ -81,12 +76,12 @@ module _ (places limit : ℕ) (more : places ≤ limit) (b : Octets) (h : limit 
   step-alike : (a : Act) (w : World Model) → passes places a (w .left) ≡ true → tableStep limit (relent b a) w ≡ tableStep places a w
   step-alike (payload p before) w t =
       let both = and-both (hasRoom places before) (ltb (length (w .left .link .queue)) places) t in
-      ap (λ (d : Effect). record { left = tableCalled d (acceptedBy p (answerOf d)) [] 0 (w .left); right = w .right })
+      ap (λ (d : Effect). tableOffered d (acceptedBy p (answerOf d)) w)
       (payload-alike (w .left .link) (length before) (room before (both .0)) p (ltb-true (length (w .left .link .queue)) places (both .1)))
   step-alike (timer before) w t =
-      ap (λ (d : Effect). record { left = tableCalled d [] [] 0 (w .left); right = w .right }) (timer-alike (w .left .link) (length before) (room before t))
+      ap (λ (d : Effect). tableOffered d [] w) (timer-alike (w .left .link) (length before) (room before t))
   step-alike (start before) w t =
-      ap (λ (d : Effect). record { left = tableCalled d [] [] 0 (w .left); right = w .right }) (start-alike (w .left .link) (length before) (room before t))
+      ap (λ (d : Effect). tableOffered d [] w) (start-alike (w .left .link) (length before) (room before t))
   step-alike (arrival before) w t = arrived-alike (w .right .line) before (room before t) w
   step-alike (loss n) w t = refl
 

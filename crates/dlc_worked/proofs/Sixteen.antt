@@ -16,10 +16,10 @@ use Rattle.dlc.specs.Limits.{slots}
 use Rattle.dlc_run.specs.Replies.{Octets}
 use Rattle.dlc_pair.specs.World.{World}
 use Rattle.dlc_pair.specs.History.{Drained}
-use Rattle.dlc_pair.specs.TableRun.{tableRun, InOrder}
+use Rattle.dlc_pair.specs.TableRun.{tableRun, openEnds, InOrder}
 use Rattle.dlc_worked.proofs.Larger.{lent, allPass, run-alike}
 use Rattle.dlc_worked.specs.Script.{payloadsFrom}
-use Rattle.dlc_worked.specs.Again.{tooMany, buffer, filled, unanswered, again, hasty, openEnds}
+use Rattle.dlc_worked.specs.Again.{tooMany, buffer, filled, unanswered, again, hasty}
 
 -- ---- sixteen places, sixteen numbers
 -- all sixteen are delivered, and the right end stands as it did before the first: nothing tells it that DATA 0 would be a repeat

@@ -10,10 +10,8 @@ use mathlib.Core.List.{List, [], _∷_, _++_}
 use lib.ListN.{replicate}
 use Rattle.dlc_packet.specs.Numbers.{modulus}
 use Rattle.dlc_packet.specs.Packet.{maxPacket}
-use Rattle.dlc_table.specs.Model.{Model, opened}
 use Rattle.dlc_run.specs.Replies.{Octets}
 use Rattle.window.specs.Sides.{left, right}
-use Rattle.dlc_pair.specs.World.{World, initial}
 use Rattle.dlc_pair.specs.History.{timer, arrival, loss, Event}
 use Rattle.dlc_worked.specs.Script.{at, payloadsFrom, offered, arrivals}
 
@@ -40,7 +38,3 @@ again n = unanswered n ++ repeated
 
 abbrev pub hasty : ℕ → List Event
 hasty n = filled n ++ repeated
-
--- two ends as demand 3 has them at the start
-abbrev pub openEnds : World Model
-openEnds = initial opened opened
