@@ -1,9 +1,9 @@
 -- The world of demand 3 is the step table's, of as many places as the queue has slots: whatever the calls of a history gave back under their contracts,
 -- what is seen of the world after it is the table's run of its events (specs/TableRun). So what is proved of the table's runs holds of histories. Assumes nothing.
-use Prim.Native.Nat.{ℕ, _+_}
+use Prim.Native.Nat.{ℕ}
 use mathlib.Core.Path.{_≡_, refl, ap, _∙_}
 use mathlib.Core.Option.{Option, none, some}
-use mathlib.Core.List.{List, [], _∷_, _++_}
+use mathlib.Core.List.{List, [], _∷_}
 use lib.ListN.{getElem?}
 use Rattle.dlc_table.specs.Model.{Model}
 use Rattle.dlc_table.specs.Events.{Effect}
@@ -14,7 +14,7 @@ use Rattle.dlc_run.proofs.Copied.{copiedBy-packets}
 use Rattle.dlc_run.specs.Replies.{Octets, Packets, isData, isDack, acceptedBy, deliveredBy}
 use Rattle.window.specs.Sides.{Side, left, right, mirror}
 use Rattle.dlc_pair.specs.World.{End, World}
-use Rattle.dlc_pair.specs.History.{Act, payload, timer, start, arrival, loss, Event, GivenFront, Given, GivenAt, called, relined, lostBy, arrived, lostAt, after, afterAt}
+use Rattle.dlc_pair.specs.History.{Act, payload, timer, start, arrival, loss, Event, GivenFront, Given, GivenAt, endAfter, called, relined, lostBy, arrived, lostAt, after, afterAt}
 use Rattle.dlc_pair.specs.History.{History, final}
 use Rattle.dlc_pair.specs.TableRun.{tableCalled, tableArrived, tableStep, tableStepAt, tableRun}
 use Rattle.dlc_pair.proofs.Relation.{seenEnd, seen}
@@ -27,15 +27,7 @@ module _ {L : Type 0} (v : L → Model) where
         ≡ tableCalled d (accepted (answerOf d)) (delivered (answerOf d)) (lost (answerOf d)) (seenEnd v e)
     call-seen m = λ i.
         let a = m .returns .answer i in
-        record {
-          link = m .returns .link i;
-          line = e .line ++ copiedBy-packets m i;
-          copied = e .copied ++ copiedBy-packets m i;
-          accepted = e .accepted ++ accepted a;
-          delivered = e .delivered ++ delivered a;
-          lost = e .lost + lost a;
-          answers = e .answers ++ (a .code ∷ []);
-        }
+        endAfter (m .returns .link i) (a .code) (copiedBy-packets m i) (accepted a) (delivered a) (lost a) (seenEnd v e)
 
   -- ---- an event at the left end
   arrived-seen : (l : Packets) (before : Octets) (w : World L) (g : GivenFront v l (w .left) before)

@@ -1,8 +1,8 @@
 -- Demand 3. The theorem stands last, for every type of links and its view; Links states it of `Link` and of what C programs hold. Assumes nothing.
 --
 -- Beside it: Theorems (every list of events has a history; what was accepted is delivered where nothing was lost, and what waits once nothing is
--- lost any more), Worked (a run with losses, repeats, refusals and a restart of the numbers; a run that meets the bound with equality), Opening (how
--- both ends come to stand open).
+-- lost any more), Opening (how both ends come to stand open); in the crate dlc_worked Worked (a run with losses, repeats, refusals and a restart of the
+-- numbers; a run that meets the bound with equality) and Sixteen (that the first part is false of the step table with sixteen places or more).
 -- By itself the claim also holds of some wrong links: one that always answers 24 and sends nothing, one that answers 0 to a DACK of
 -- distance 0, one that removes all at a distance above the queue. They are ruled out by the contracts, which are equations with the step
 -- table, and the histories here are of calls that meet the contracts.

@@ -101,36 +101,23 @@ seen v w = record { left = seenEnd v (w .left); right = seenEnd v (w .right) }
 abbrev pub same : Model → Model
 same m = m
 
--- what is seen follows where the end does, and the end where that does
-module _ {modelOf : Peer → Model} {L : Type 0} {v : L → Model} where
-  end-seen : {e : End L} {a : Peer} → Follows modelOf v e a → Follows modelOf same (seenEnd v e) a
-  end-seen f = record {
-    model = f .model;
-    line = f .line;
-    accepted = f .accepted;
-    delivered = f .delivered;
-    sent = f .sent;
-    lost = f .lost;
-    never = f .never;
+-- an end follows where another does of which the same is seen, of whatever type its link is
+module _ {modelOf : Peer → Model} {L K : Type 0} {v : L → Model} {u : K → Model} where
+  follows-alike : {e : End L} {x : End K} {a : Peer} → seenEnd u x ≡ seenEnd v e → Follows modelOf v e a → Follows modelOf u x a
+  follows-alike q f = record {
+    model = ap (λ (t : End Model). t .link) q ∙ f .model;
+    line = ap (λ (t : End Model). t .line) q ∙ f .line;
+    accepted = ap (λ (t : End Model). t .accepted) q ∙ f .accepted;
+    delivered = ap (λ (t : End Model). t .delivered) q ∙ f .delivered;
+    sent = ap (λ (t : End Model). count isData (t .copied)) q ∙ f .sent;
+    lost = ap (λ (t : End Model). t .lost) q ∙ f .lost;
+    never = subst (λ (t : End Model). Never badLink (t .answers)) (sym q) (f .never);
     fits = f .fits;
     sound = f .sound;
   }
 
-  end-unseen : {e : End L} {a : Peer} → Follows modelOf same (seenEnd v e) a → Follows modelOf v e a
-  end-unseen f = record {
-    model = f .model;
-    line = f .line;
-    accepted = f .accepted;
-    delivered = f .delivered;
-    sent = f .sent;
-    lost = f .lost;
-    never = f .never;
-    fits = f .fits;
-    sound = f .sound;
+  pub follow-alike : {w : World L} {z : World K} {s : Both Peer} → seen u z ≡ seen v w → BothFollow modelOf v w s → BothFollow modelOf u z s
+  follow-alike q f = record {
+    left = follows-alike (ap (λ (t : World Model). t .left) q) (f .left);
+    right = follows-alike (ap (λ (t : World Model). t .right) q) (f .right);
   }
-
-  pub follow-seen : {w : World L} {s : Both Peer} → BothFollow modelOf v w s → BothFollow modelOf same (seen v w) s
-  follow-seen f = record { left = end-seen (f .left); right = end-seen (f .right) }
-
-  pub follow-unseen : {w : World L} {s : Both Peer} → BothFollow modelOf same (seen v w) s → BothFollow modelOf v w s
-  follow-unseen f = record { left = end-unseen (f .left); right = end-unseen (f .right) }

@@ -2,7 +2,7 @@
 -- history of it. Assumes nothing.
 use Prim.Native.Nat.{ℕ, _≤_}
 use native.Mathlib.Omega.{arith}
-use mathlib.Core.Path.{_≡_, sym, ap, subst, _∙_}
+use mathlib.Core.Path.{_≡_, refl, sym, ap, _∙_}
 use mathlib.Core.List.{List, [], _∷_, map}
 use Rattle.dlc_table.specs.Model.{Model}
 use Rattle.dlc.specs.Limits.{slots}
@@ -15,7 +15,7 @@ use Rattle.dlc_pair.specs.World.{count, World}
 use Rattle.dlc_pair.specs.History.{Act, payload, timer, start, arrival, loss, Event, GivenAt, afterAt, History, final, Waits, WaitsAt, TimerWaits}
 use Rattle.dlc_pair.specs.TableRun.{tableRun}
 use Rattle.dlc_pair.proofs.Codec.{count-data, count-dack}
-use Rattle.dlc_pair.proofs.Relation.{BothFollow, follow-mirror, same, follow-seen, follow-unseen}
+use Rattle.dlc_pair.proofs.Relation.{BothFollow, follow-mirror, same, follow-alike}
 use Rattle.dlc_pair.proofs.ByTheTable.{stepAt-by-the-table}
 use Rattle.dlc_pair.proofs.Simulates.{Simulates}
 use Rattle.dlc_pair.proofs.Steps.{actOf, stepAt-follows}
@@ -77,9 +77,7 @@ table-follows few table (e ∷ es) f = table-follows few table es (stepAt-follow
 module _ {rules : Rules} {modelOf : Peer → Model} (table : Simulates slots rules modelOf) where
   event-follows : {L : Type 0} {v : L → Model} (d : Side) (a : Act) {w : World L} {s : Both Peer} → BothFollow modelOf v w s → (g : GivenAt v d a w)
       → BothFollow modelOf v (afterAt v d a w g) (stepAt rules d (actOf slots a) s)
-  event-follows {v = v} d a {w} {s} f g = follow-unseen
-      (subst (λ (z : World Model). BothFollow modelOf same z (stepAt rules d (actOf slots a) s)) (sym (stepAt-by-the-table v d a w g))
-      (stepAt-follows (omega arith) table d a (follow-seen f)))
+  event-follows {v = v} d a {w} {s} f g = follow-alike (stepAt-by-the-table v d a w g) (stepAt-follows (omega arith) table d a (follow-alike refl f))
 
   pub run-follows : {L : Type 0} {v : L → Model} (es : List Event) {w : World L} {s : Both Peer} → BothFollow modelOf v w s → (h : History v es w)
       → BothFollow modelOf v (final v es w h) (runOf slots rules es s)

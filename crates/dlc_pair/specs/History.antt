@@ -48,17 +48,22 @@ Given v (arrival before) w = GivenFront v (w .right .line) (w .left) before
 Given v (loss n) w = Unit {0}
 
 -- ---- the world after an event
--- an end after a call: the payloads newly accepted and delivered, and how many packets that count for it were lost
-abbrev pub called : {L : Type 0} → L → Answer → Octets → Packets → Packets → ℕ → End L → End L
-called r a later accepted delivered n e = record {
+-- an end after a call that gave back the link r, answered c and sent these packets: with the payloads newly accepted and delivered, and how many
+-- packets that count for it were lost
+abbrev pub endAfter : {L : Type 0} → L → ℕ → Packets → Packets → Packets → ℕ → End L → End L
+endAfter r c sent accepted delivered n e = record {
   link = r;
-  line = e .line ++ copiedBy a later;
-  copied = e .copied ++ copiedBy a later;
+  line = e .line ++ sent;
+  copied = e .copied ++ sent;
   accepted = e .accepted ++ accepted;
   delivered = e .delivered ++ delivered;
   lost = e .lost + n;
-  answers = e .answers ++ (a .code ∷ []);
+  answers = e .answers ++ (c ∷ []);
 }
+
+-- the packets are those that are copied out of the reply buffer
+abbrev pub called : {L : Type 0} → L → Answer → Octets → Packets → Packets → ℕ → End L → End L
+called r a later accepted delivered n e = endAfter r (a .code) (copiedBy a later) accepted delivered n e
 
 -- an end with another outgoing line, and n packets more lost
 abbrev pub relined : {L : Type 0} → Packets → ℕ → End L → End L

@@ -6,8 +6,8 @@
 --   InOrder limit          whether from two open ends, whatever the events, each end delivers an initial part of what was accepted at the other
 --
 -- The world is that of demand 3, with models for its links: a model has no free slots, so nothing is left open and a list of events has one run.
-use Prim.Native.Nat.{ℕ, _+_}
-use mathlib.Core.List.{List, [], _∷_, _++_, IsPrefix}
+use Prim.Native.Nat.{ℕ}
+use mathlib.Core.List.{List, [], _∷_, IsPrefix}
 use lib.ListN.{length, getElem?}
 use Rattle.dlc_table.specs.Model.{Model, opened}
 use Rattle.dlc_table.specs.Events.{Effect, startOf, timerOf, payloadOf, arrivalOf}
@@ -15,19 +15,11 @@ use Rattle.dlc.specs.Calls.{answerOf}
 use Rattle.dlc_run.specs.Replies.{Octets, Packets, isData, isDack, acceptedBy, deliveredBy}
 use Rattle.window.specs.Sides.{Side, left, right, mirror}
 use Rattle.dlc_pair.specs.World.{End, World, initial}
-use Rattle.dlc_pair.specs.History.{Act, payload, timer, start, arrival, loss, Event, relined, lostBy, lostAt}
+use Rattle.dlc_pair.specs.History.{Act, payload, timer, start, arrival, loss, Event, endAfter, relined, lostBy, lostAt}
 
--- an end after a call with this effect: the payloads newly accepted and delivered, and how many packets that count for it were lost
+-- an end after a call with this effect
 abbrev pub tableCalled : Effect → Packets → Packets → ℕ → End Model → End Model
-tableCalled d accepted delivered n e = record {
-  link = d .after;
-  line = e .line ++ d .packets;
-  copied = e .copied ++ d .packets;
-  accepted = e .accepted ++ accepted;
-  delivered = e .delivered ++ delivered;
-  lost = e .lost + n;
-  answers = e .answers ++ (d .code ∷ []);
-}
+tableCalled d accepted delivered n e = endAfter (d .after) (d .code) (d .packets) accepted delivered n e
 
 -- the world after a call at the left end that brings no packet
 abbrev pub tableOffered : Effect → Packets → World Model → World Model

@@ -4,14 +4,15 @@ use Prim.Native.Nat.{ℕ, _*_, _<_, _≤_}
 use native.Mathlib.Omega.{arith}
 use mathlib.Core.Path.{_≡_, refl, ap, _∙_}
 use mathlib.Core.Bool.{Bool, true, _&&_}
-use mathlib.Core.List.{List, [], _∷_, map}
+use mathlib.Core.List.{List, [], _∷_, _++_, map}
 use lib.Dec.{leb, ltb}
 use lib.ListN.{length}
 use borrow.Author.Tests.{lt-leb, le-ltb, leb-true, ltb-true}
 use Rattle.common.proofs.Bools.{and-both}
-use Rattle.dlc_packet.specs.Packet.{maxPacket}
+use Rattle.common.specs.Refusals.{Refusal, guarded}
+use Rattle.dlc_packet.specs.Packet.{maxPacket, kindOf}
 use Rattle.dlc_table.specs.Model.{Model}
-use Rattle.dlc_table.specs.Events.{Effect, startOf, timerOf, payloadOf, arrivalOf}
+use Rattle.dlc_table.specs.Events.{Effect, refuse, startStep, timerStep, queued, packetStep, callRefusals, payloadRefusals, startOf, timerOf, payloadOf, arrivalOf}
 use Rattle.dlc.specs.Calls.{answerOf}
 use Rattle.dlc_run.specs.Replies.{Octets, Packets, acceptedBy}
 use Rattle.window.specs.Sides.{Side, left, right, mirror, endAt}
@@ -49,22 +50,29 @@ module _ (places : ℕ) where
 -- ---- with more places, and a buffer that is long enough for them
 module _ (places limit : ℕ) (more : places ≤ limit) (b : Octets) (h : limit * maxPacket ≤ length b) where
   module _ (m : Model) (n : ℕ) (k : places * maxPacket ≤ n) where
+    -- both refuse the same: 27 by the link alone, and neither refuses by 26
+    calls-alike : callRefusals limit m (length b) ≡ callRefusals places m n
+    calls-alike = rw (le-ltb (length b) (limit * maxPacket) h, le-ltb n (places * maxPacket) k)
+
     start-alike : startOf limit m (length b) ≡ startOf places m n
     unfolding startOf
-    start-alike = rw (le-ltb (length b) (limit * maxPacket) h, le-ltb n (places * maxPacket) k)
+    start-alike = ap (λ (rs : List Refusal). guarded rs (refuse m) (startStep m (m .state))) calls-alike
 
     timer-alike : timerOf limit m (length b) ≡ timerOf places m n
     unfolding timerOf
-    timer-alike = rw (le-ltb (length b) (limit * maxPacket) h, le-ltb n (places * maxPacket) k)
+    timer-alike = ap (λ (rs : List Refusal). guarded rs (refuse m) (timerStep m (m .state))) calls-alike
 
     arrival-alike : (q : Octets) → arrivalOf limit m q (length b) ≡ arrivalOf places m q n
     unfolding arrivalOf
-    arrival-alike q = rw (le-ltb (length b) (limit * maxPacket) h, le-ltb n (places * maxPacket) k)
+    arrival-alike q = ap (λ (rs : List Refusal). guarded rs (refuse m) (packetStep m (kindOf q))) calls-alike
 
+    -- and where a place is free neither refuses by 22
     payload-alike : (p : Octets) → length (m .queue) < places → payloadOf limit m p (length b) ≡ payloadOf places m p n
     unfolding payloadOf
     payload-alike p free =
-        rw (le-ltb (length b) (limit * maxPacket) h, le-ltb n (places * maxPacket) k, lt-leb limit (length (m .queue)) (omega (arith, more, free)), lt-leb places (length (m .queue)) free)
+        let full : payloadRefusals limit m p ≡ payloadRefusals places m p =
+        rw (lt-leb limit (length (m .queue)) (omega (arith, more, free)), lt-leb places (length (m .queue)) free) in
+        λ i. guarded (calls-alike i ++ full i) (refuse m) (queued m p)
 
   arrived-alike : (l : Packets) (before : Octets) → places * maxPacket ≤ length before → (w : World Model) → tableArrived limit l b w ≡ tableArrived places l before w
   arrived-alike [] before k w = refl

@@ -27,7 +27,7 @@ pub receiver-as-at-the-start : tableRun tooMany (filled tooMany) openEnds .right
 unfolding timerOf payloadOf arrivalOf
 receiver-as-at-the-start = refl
 
--- the timer comes when nothing is on the line: it waits, as the bound asks
+-- the timer comes when none of its end's DATA and no DACK to it is on the line: it waits, as the bound asks
 pub timer-waits : Drained (tableRun tooMany (unanswered tooMany) openEnds)
 unfolding timerOf payloadOf arrivalOf
 timer-waits = (refl, refl)
