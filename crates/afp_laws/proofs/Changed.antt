@@ -44,7 +44,7 @@ module _ (f : List ℕ) (o : Octets f) (l : 2 ≤ length f) where
       ap (feedAll preset)
       (sym (take-append-drop (checkedLength f) f)
       ∙ ap (λ (t : List ℕ). checkedPart f ++ t) (last-two f l ∙ ap₂ (λ (x y : ℕ). x ∷ y ∷ []) (sym lo) (sym hi)))
-      ∙ check-residue (checkedPart f) (octets-take f (checkedLength f) o)
+      ∙ check-residue (checkedPart f)
 
 -- ---- one octet y in place of another
 module _ (f : List ℕ) (i y : ℕ) (o : Octets f) (hy : y < 256) (hi : i < length f) (differs : octet f i ≡ y → ⊥) where
@@ -58,7 +58,7 @@ module _ (f : List ℕ) (i y : ℕ) (o : Octets f) (hy : y < 256) (hi : i < leng
   register-differs : feedAll preset f ≡ feedAll preset (set f i y) → ⊥
   register-differs e =
       differs
-      (changed-octet preset (take i f) (drop (suc i) f) (octet f i) y (lit< tt) (octets-take f i o) (octets-drop f (suc i) o) (o i) hy
+      (changed-octet preset (take i f) (drop (suc i) f) (octet f i) y (lit< tt) (octets-drop f (suc i) o) (o i) hy
       (ap (feedAll preset) (sym (split-at f i 0 hi)) ∙ e ∙ ap (feedAll preset) (set-split f i y hi)))
 
   module _ (long : minFrame ≤ length f) (short : length f ≤ maxFrame) (right : receivedCheck f ≡ checkSequence (checkedPart f)) where

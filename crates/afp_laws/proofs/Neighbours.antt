@@ -64,14 +64,14 @@ module _ (xs ys : List ℕ) (a b c d : ℕ) (ox : Octets xs) (oy : Octets ys) (h
   after-pair a b = feed-++ preset xs (a ∷ b ∷ ys) ∙ feed-++ (feedAll preset xs) (a ∷ b ∷ []) ys
 
   register-lt : feedAll preset xs < 2 ^ 16
-  register-lt = feeds-lt preset xs (lit< tt) ox
+  register-lt = feeds-lt preset xs (lit< tt)
 
-  pair-lt : (a b : ℕ) → a < 256 → b < 256 → feedAll (feedAll preset xs) (a ∷ b ∷ []) < 2 ^ 16
-  pair-lt a b ha hb = feeds-lt (feedAll preset xs) (a ∷ b ∷ []) register-lt (octets-pair a b [] ha hb none)
+  pair-lt : (a b : ℕ) → feedAll (feedAll preset xs) (a ∷ b ∷ []) < 2 ^ 16
+  pair-lt a b = feeds-lt (feedAll preset xs) (a ∷ b ∷ []) register-lt
 
   register-differs : feedAll preset f ≡ feedAll preset g → ⊥
   register-differs e =
-      let i = feeds-injective (feedAll (feedAll preset xs) (a ∷ b ∷ [])) (feedAll (feedAll preset xs) (c ∷ d ∷ [])) ys (pair-lt a b ha hb) (pair-lt c d hc hd) oy
+      let i = feeds-injective (feedAll (feedAll preset xs) (a ∷ b ∷ [])) (feedAll (feedAll preset xs) (c ∷ d ∷ [])) ys (pair-lt a b) (pair-lt c d) oy
       (sym (after-pair a b) ∙ e ∙ after-pair c d) in
       let t = pair-told (feedAll preset xs) a b c d register-lt ha hb hc hd i in
       differs (t .0) (t .1)

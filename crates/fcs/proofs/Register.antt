@@ -99,11 +99,18 @@ pub feed-shift : (c x : ℕ) → x < 256 → feed c x ≡ shiftBits 8 (bitXor c 
 unfolding feed
 feed-shift c x h = feed-bits 8 c x h
 
-pub feed-lt : (c x : ℕ) → c < 2 ^ 16 → x < 256 → feed c x < 2 ^ 16
-feed-lt c x hc hx = rw (feed-shift c x hx) (shifts-lt 8 (bitXor c x) (xor-lt 16 c x hc (omega arith)))
+-- it stays within 16 bits, whatever is fed
+feed-bits-lt : (k c x : ℕ) → c < 2 ^ 16 → feedBits k c x < 2 ^ 16
+unfolding feedBits feedBit
+feed-bits-lt zero c x h = h
+feed-bits-lt (suc k) c x h = feed-bits-lt k (reduceIf ((c + x) % 2) (c / 2)) (x / 2) (reduce-lt ((c + x) % 2) (c / 2) (omega arith))
+
+pub feed-lt : (c x : ℕ) → c < 2 ^ 16 → feed c x < 2 ^ 16
+unfolding feed
+feed-lt c x h = feed-bits-lt 8 c x h
 
 -- ---- octets fed one by one are a number added at once
-shifts-+ : (j k c : ℕ) → shiftBits (j + k) c ≡ shiftBits k (shiftBits j c)
+pub shifts-+ : (j k c : ℕ) → shiftBits (j + k) c ≡ shiftBits k (shiftBits j c)
 unfolding shiftBits
 shifts-+ zero k c = let z : 0 + k ≡ k = omega arith in rw z
 shifts-+ (suc j) k c = let z : suc j + k ≡ suc (j + k) = omega arith in rw z (shifts-+ j k (shiftBit c))
@@ -113,7 +120,7 @@ shift-double : (x : ℕ) → shiftBit (x * 2) ≡ x
 unfolding shiftBit
 shift-double x = ap₂ reduceIf (mul-mod-left x 2) (mul-div-cancel x (zero-lt-suc 1))
 
-shifts-moved : (k y : ℕ) → shiftBits k (y * 2 ^ k) ≡ y
+pub shifts-moved : (k y : ℕ) → shiftBits k (y * 2 ^ k) ≡ y
 unfolding shiftBits
 shifts-moved zero y = mul-one y
 shifts-moved (suc k) y =
@@ -145,10 +152,10 @@ unfolding feedAll
 feed-++ c [] ys = refl
 feed-++ c (x ∷ xs) ys = feed-++ (feed c x) xs ys
 
-pub feeds-lt : (c : ℕ) (xs : List ℕ) → c < 2 ^ 16 → Octets xs → feedAll c xs < 2 ^ 16
+pub feeds-lt : (c : ℕ) (xs : List ℕ) → c < 2 ^ 16 → feedAll c xs < 2 ^ 16
 unfolding feedAll
-feeds-lt c [] hc o = hc
-feeds-lt c (x ∷ xs) hc o = feeds-lt (feed c x) xs (feed-lt c x hc (o 0)) (λ i. o (suc i))
+feeds-lt c [] h = h
+feeds-lt c (x ∷ xs) h = feeds-lt (feed c x) xs (feed-lt c x h)
 
 -- at a place of a list, for the loops
 pub feed-drop : (c : ℕ) (xs : List ℕ) (i : ℕ) → i < length xs → feedAll c (drop i xs) ≡ feedAll (feed c (getD xs i 0)) (drop (i + 1) xs)

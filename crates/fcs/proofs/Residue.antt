@@ -40,9 +40,9 @@ module _ (r a b : ℕ) (hr : r < 2 ^ 16) (ha : a < 256) (hb : b < 256) where
       xor-left r (a + b * 256) (0xFFFF - r) (i ∙ sym (xor-complement 16 r hr))
 
 -- ---- the same of a list
-module _ (xs : List ℕ) (o : Octets xs) where
+module _ (xs : List ℕ) where
   register-lt : feedAll preset xs < 2 ^ 16
-  register-lt = feeds-lt preset xs (lit< tt) o
+  register-lt = feeds-lt preset xs (lit< tt)
 
   pub check-residue : feedAll preset (xs ++ checkOctets xs) ≡ residue
   unfolding checkSequence
@@ -83,15 +83,15 @@ unfolding feedAll
 feeds-injective c d [] hc hd o e = e
 feeds-injective c d (x ∷ xs) hc hd o e =
     feed-register-injective c d x hc hd (o 0)
-    (feeds-injective (feed c x) (feed d x) xs (feed-lt c x hc (o 0)) (feed-lt d x hd (o 0)) (λ i. o (suc i)) e)
+    (feeds-injective (feed c x) (feed d x) xs (feed-lt c x hc) (feed-lt d x hd) (λ i. o (suc i)) e)
 
 -- one octet changed anywhere changes the register at the end
-module _ (c : ℕ) (xs ys : List ℕ) (x y : ℕ) (hc : c < 2 ^ 16) (ox : Octets xs) (oy : Octets ys) (hx : x < 256) (hy : y < 256) where
+module _ (c : ℕ) (xs ys : List ℕ) (x y : ℕ) (hc : c < 2 ^ 16) (oy : Octets ys) (hx : x < 256) (hy : y < 256) where
   pub changed-octet : feedAll c (xs ++ x ∷ ys) ≡ feedAll c (xs ++ y ∷ ys) → x ≡ y
   unfolding feedAll
   changed-octet e =
       let r = feedAll c xs in
-      let l : feedAll c xs < 2 ^ 16 = feeds-lt c xs hc ox in
+      let l : feedAll c xs < 2 ^ 16 = feeds-lt c xs hc in
       feed-octet-injective r x y l hx hy
-      (feeds-injective (feed r x) (feed r y) ys (feed-lt r x l hx) (feed-lt r y l hy) oy
+      (feeds-injective (feed r x) (feed r y) ys (feed-lt r x l) (feed-lt r y l) oy
       (sym (feed-++ c xs (x ∷ ys)) ∙ e ∙ feed-++ c xs (y ∷ ys)))

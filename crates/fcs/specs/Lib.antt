@@ -1,2 +1,3 @@
 pub mod Fcs
 pub mod Words
+pub mod Bursts

@@ -5,8 +5,10 @@ ghost use lib.ListN.{length};
 ghost use Rattle.fcs.specs.Fcs.{feed, feedAll, checkSequence};
 ghost use Rattle.fcs.specs.Words.{shiftBits, littleEndian};
 
-// The register before the first octet.
-const PRESET: u16 = 0xFFFF;
+// The register before the first octet, and after any octets with their own check octets.
+pub const PRESET: u16 = 0xFFFF;
+
+pub const RESIDUE: u16 = 0xF0B8;
 
 // Two octets as one number.
 fn pair(low: u8, high: u8) -> u64
