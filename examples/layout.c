@@ -16,11 +16,12 @@ FIELD(hasfandur_written, length, 8, 8);
 
 static_assert(sizeof(hasfandur_qaft_reader) == 24, "hasfandur_qaft_reader");
 FIELD(hasfandur_qaft_reader, level, 0, 1);
-FIELD(hasfandur_qaft_reader, synced, 1, 1);
-FIELD(hasfandur_qaft_reader, pending, 2, 1);
+FIELD(hasfandur_qaft_reader, check_kind, 1, 1);
+FIELD(hasfandur_qaft_reader, synced, 2, 1);
+FIELD(hasfandur_qaft_reader, pending, 3, 1);
 FIELD(hasfandur_qaft_reader, count, 8, 8);
-FIELD(hasfandur_qaft_reader, sum, 16, 1);
-FIELD(hasfandur_qaft_reader, bad_pair, 17, 1);
+FIELD(hasfandur_qaft_reader, check, 16, 2);
+FIELD(hasfandur_qaft_reader, bad_pair, 18, 1);
 
 static_assert(sizeof(hasfandur_qaft_answer) == 48, "hasfandur_qaft_answer");
 FIELD(hasfandur_qaft_answer, number, 0, 1);
@@ -95,6 +96,7 @@ static_assert(sizeof(hasfandur_tally) == 56, "hasfandur_tally");
 FIELD(hasfandur_tally, counts, 0, 56);
 
 static_assert(HASFANDUR_QAFT_FRAME_SIZE(HASFANDUR_QAFT_MAX_DATA) == HASFANDUR_QAFT_MAX_FRAME, "longest QAFT frame");
+static_assert(HASFANDUR_QAFT_FCS_FRAME_SIZE(HASFANDUR_QAFT_MAX_DATA) == HASFANDUR_QAFT_FCS_MAX_FRAME, "longest frame with the check sequence");
 static_assert(HASFANDUR_KISS_FRAME_SIZE(HASFANDUR_QAFT_MAX_DATA) == HASFANDUR_KISS_MAX_FRAME, "longest KISS frame");
 static_assert(HASFANDUR_DLC_PACKET_SIZE(HASFANDUR_DLC_MAX_PAYLOAD) == HASFANDUR_DLC_MAX_PACKET, "longest packet");
 static_assert(HASFANDUR_DLC_SLOTS * HASFANDUR_DLC_MAX_PACKET == HASFANDUR_DLC_REPLY_SIZE, "reply");

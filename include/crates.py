@@ -39,11 +39,25 @@ def camel(name):
     return first + "".join(w.capitalize() for w in rest)
 
 
+def by_kind(file, expression, kind):
+    """An expression that speaks of the check `kind`, with the name of one in its place: what the kinds differ in, and definitions that take it."""
+    expression = re.sub(r"\bbyKind kind (\w+) (\w+)", r"\1" if kind == "sumKind" else r"\2", expression)
+    return taking_kind(file, expression, "kind", kind)
+
+
+def taking_kind(file, expression, word, kind):
+    """Definitions that take a check kind, which the expression calls by a word, calculated for it."""
+    return re.sub(rf"\b(\w+) {word}\b", lambda m: str(definition(file, f"{m.group(1)} {kind}")), expression)
+
+
 def definition(file, name):
-    """A number of the definitions; one that a file takes from another is looked for there."""
+    """A number of the definitions, or one that takes a check kind, with its name behind; one that a file takes from another is looked for there."""
     text = (TOP / "crates" / f"{file}.antt").read_text()
+    name, _, kind = name.partition(" ")
+    if kind and (m := re.search(rf"^{name} kind = (.*)$", text, re.M)):
+        return value(by_kind(file, m.group(1), kind), lambda w: definition(file, w))
     if m := re.search(rf"^{name} = (.*)$", text, re.M):
-        return value(m.group(1), lambda w: definition(file, w))
+        return value(taking_kind(file, m.group(1), "sumKind", "sumKind"), lambda w: definition(file, w))
     crate = "|".join(p.name for p in (TOP / "crates").iterdir())
     if m := re.search(rf"^use Rattle·({crate})(?:·specs)?\.specs(?:\.specs)?\.(\w+)\.\{{[^}}]*\b{name}\b", text, re.M):
         return definition(f"{m.group(1)}/specs/{m.group(2)}", name)

@@ -24,8 +24,8 @@ extern "C" {
 
 /* The version, and the same as one number to compare: 10000 for the first part, 100 for the second. */
 /* begin version: written by include/numbers */
-#define HASFANDUR_VERSION "0.8.0"
-#define HASFANDUR_VERSION_NUMBER 800
+#define HASFANDUR_VERSION "0.9.0"
+#define HASFANDUR_VERSION_NUMBER 900
 /* end version */
 
 /* On calls that give a state or a link back: who drops it goes on with the old one. */
@@ -35,7 +35,7 @@ extern "C" {
 #define HASFANDUR_MUST_USE
 #endif
 
-/* The numbers given back. Where several refusals apply the first is given: QAFT writer 6, 1, 2, 3; QAFT reader 6, 4, 5; KISS
+/* The numbers given back. Where several refusals apply the first is given: QAFT writer 6, 7, 1, 2, 3; QAFT reader 6, 7, 4, 5; KISS
  * writer 1, 2, 64; KISS reader 4, 5; conversions 6, then 64 to KISS and 3 to QAFT; link 27, 26, 23, 21, 20, 22, 24; AFP reader 30
  * upward; AFP writer 33, 35, 36, 38, 34, 40, 41; line sheet 6, 50, 51. */
 /* begin numbers: written by include/numbers */
@@ -44,14 +44,15 @@ enum hasfandur_number {
     HASFANDUR_QAFT_NO_DATA = 1, /* QAFT writer, KISS too: no data */
     HASFANDUR_QAFT_DATA_TOO_LONG = 2, /* QAFT writer, KISS too: over 2,560 data octets */
     HASFANDUR_QAFT_OUT_TOO_SMALL = 3, /* QAFT writer and conversion to QAFT: `out` is shorter than this very frame or line */
-    HASFANDUR_QAFT_BUFFER_TOO_SMALL = 4, /* QAFT reader, KISS too: `buffer` is under 2,561 octets */
+    HASFANDUR_QAFT_BUFFER_TOO_SMALL = 4, /* QAFT reader, KISS too: `buffer` is under 2,561 octets, with the check sequence 2,562 */
     HASFANDUR_QAFT_BAD_STATE = 5, /* QAFT reader, KISS too: a state that no line leads to */
     HASFANDUR_QAFT_BAD_LEVEL = 6, /* QAFT writer, reader, conversions and line sheet: level not 0 or 1 */
+    HASFANDUR_QAFT_BAD_KIND = 7, /* QAFT writer and reader: check kind not 0 or 1 */
     HASFANDUR_QAFT_FRAME = 10, /* QAFT reader's report, KISS too, no refusal: a frame */
     HASFANDUR_QAFT_ABORTED = 11, /* QAFT reader's report, no refusal: a 7D stands before the flag */
-    HASFANDUR_QAFT_LONG = 12, /* QAFT reader's report, no refusal: over 2,561 octets */
-    HASFANDUR_QAFT_SHORT = 13, /* QAFT reader's report, no refusal: a single octet */
-    HASFANDUR_QAFT_BAD_CHECK = 14, /* QAFT reader's report, no refusal: the sum is not 0 */
+    HASFANDUR_QAFT_LONG = 12, /* QAFT reader's report, no refusal: over 2,561 octets, with the check sequence 2,562 */
+    HASFANDUR_QAFT_SHORT = 13, /* QAFT reader's report, no refusal: a single octet, with the check sequence one or two */
+    HASFANDUR_QAFT_BAD_CHECK = 14, /* QAFT reader's report, no refusal: the sum is not 0, or the check sequence is another */
     HASFANDUR_QAFT_USED_UP = 15, /* QAFT reader, KISS too, no refusal: the chunk is used up without a report */
     HASFANDUR_QAFT_BAD_PAIR = 16, /* QAFT reader's report, no refusal: 7D before an octet that stands for none that the level escapes */
     HASFANDUR_DLC_NOT_OPEN = 20, /* DLC payload: the link is not open */
@@ -84,11 +85,22 @@ enum hasfandur_number {
 };
 /* end numbers */
 
+/* The kinds of check that frames on the serial line have. Since 0.9.0 writer and reader take one: HASFANDUR_QAFT_SUM is what they did
+ * before. Listing, line sheet and conversions know QAFT alone. */
+/* begin checks: written by include/numbers */
+enum hasfandur_qaft_check_kind {
+    HASFANDUR_QAFT_SUM = 0, /* one check octet, by the sum of the data: QAFT */
+    HASFANDUR_QAFT_FCS = 1 /* the two octets of the check sequence of ISO 3309: AFT with the longer check */
+};
+/* end checks */
+
 /* Sizes, in octets but for slots, lines and counts. */
 /* begin sizes: written by include/numbers */
 #define HASFANDUR_QAFT_MAX_DATA 2560 /* data of a QAFT frame, at least 1 */
 #define HASFANDUR_QAFT_MAX_SEGMENT 2561 /* the QAFT reader's `buffer`, at least: data and check of the longest frame */
 #define HASFANDUR_QAFT_MAX_FRAME 5124 /* an `out` that has room for every QAFT frame */
+#define HASFANDUR_QAFT_FCS_MAX_SEGMENT 2562 /* the reader's `buffer`, at least, with the check sequence; it will do for either check */
+#define HASFANDUR_QAFT_FCS_MAX_FRAME 5126 /* an `out` that has room for every frame with the check sequence */
 #define HASFANDUR_KISS_MAX_SEGMENT 2561 /* the KISS reader's `buffer`, at least: type octet and the longest payload */
 #define HASFANDUR_KISS_MAX_FRAME 5123 /* an `out` that has room for every KISS frame */
 #define HASFANDUR_DLC_MAX_PAYLOAD 256 /* a DLC payload, which may be empty */
@@ -105,11 +117,12 @@ enum hasfandur_number {
 #define HASFANDUR_SHEET_MAX_LINE 357 /* the line printer's `out`, at least: room for every printed line */
 /* end sizes */
 
-/* An `out` of this size has room for the QAFT frame of n data octets, whatever they are; one for the KISS frame of n payload octets;
- * one for a DLC packet in a QAFT frame;
+/* An `out` of this size has room for the QAFT frame of n data octets, whatever they are; one for the frame of them with the check
+ * sequence; one for the KISS frame of n payload octets; one for a DLC packet in a QAFT frame;
  * the size of the DLC packet of n payload octets; and of the AFP frame of so many octets of stations, supplementary header and
  * data, which is its very length. */
 #define HASFANDUR_QAFT_FRAME_SIZE(n) (2 * ((n) + 1) + 2)
+#define HASFANDUR_QAFT_FCS_FRAME_SIZE(n) (2 * ((n) + 2) + 2)
 #define HASFANDUR_KISS_FRAME_SIZE(n) (2 * (n) + 3)
 #define HASFANDUR_QAFT_PACKET_FRAME HASFANDUR_QAFT_FRAME_SIZE(HASFANDUR_DLC_MAX_PACKET)
 #define HASFANDUR_DLC_PACKET_SIZE(n) ((n) + 1)
@@ -128,27 +141,32 @@ typedef struct hasfandur_written {
 uint8_t hasfandur_qaft_check(const uint8_t *octets, size_t length);
 
 /*
- * Writes one QAFT frame to the front of `out`: a flag (unless `at_flag` says that the line stands at one), data and check
- * octet with their escapes, a flag. Level 0 escapes 7E and 7D, level 1 also 11 and 13, which its reader skips where they stand raw.
+ * Writes one frame to the front of `out`: a flag (unless `at_flag` says that the line stands at one), data and check with their
+ * escapes, a flag. Level 0 escapes 7E and 7D, level 1 also 11 and 13, which its reader skips where they stand raw. `check_kind`:
+ * HASFANDUR_QAFT_SUM for QAFT, whose check is hasfandur_qaft_check of the data; HASFANDUR_QAFT_FCS for AFT with the longer check,
+ * hasfandur_check_sequence of the data, low octet first.
  *
- * Refusals, the first that applies: HASFANDUR_QAFT_BAD_LEVEL (level over 1), _NO_DATA, _DATA_TOO_LONG, _OUT_TOO_SMALL (by the
- * length of this very frame). A refusal writes nothing. Otherwise HASFANDUR_DONE, with the frame's length; octets of `out`
- * behind the frame are as before.
+ * Refusals, the first that applies: HASFANDUR_QAFT_BAD_LEVEL (level over 1), _BAD_KIND (check kind over 1), _NO_DATA,
+ * _DATA_TOO_LONG, _OUT_TOO_SMALL (by the length of this very frame). A refusal writes nothing. Otherwise HASFANDUR_DONE, with the
+ * frame's length; octets of `out` behind the frame are as before.
  */
-hasfandur_written hasfandur_qaft_write(uint8_t level, bool at_flag, const uint8_t *data, size_t data_length, uint8_t *out,
-                                       size_t out_length);
+hasfandur_written hasfandur_qaft_write(uint8_t level, uint8_t check_kind, bool at_flag, const uint8_t *data, size_t data_length,
+                                       uint8_t *out, size_t out_length);
 
 /*
- * The QAFT reader's state, which goes from call to call by value: level; whether a flag has come; whether a 7D waits for
- * its partner; octets of the segment so far, escapes undone, 2,562 for all above; their sum modulo 256; whether a bad pair came in
- * the segment. In `synced`, `pending` and `bad_pair` any number but 0 stands for true; a call that is not refused gives 0 or 1 back.
+ * The reader's state, which goes from call to call by value: level; kind of check; whether a flag has come; whether a 7D waits for
+ * its partner; octets of the segment so far, escapes undone, 2,562 for all above, with HASFANDUR_QAFT_FCS 2,563; their running
+ * check, which is their sum modulo 256, or with HASFANDUR_QAFT_FCS the register before the complement, FFFF at a count of 0; whether
+ * a bad pair came in the segment. In `synced`, `pending` and `bad_pair` any number but 0 stands for true; a call that is not refused
+ * gives 0 or 1 back.
  */
 typedef struct hasfandur_qaft_reader {
     uint8_t level;
+    uint8_t check_kind;
     uint8_t synced;
     uint8_t pending;
     size_t count;
-    uint8_t sum;
+    uint16_t check;
     uint8_t bad_pair;
 } hasfandur_qaft_reader;
 
@@ -161,8 +179,8 @@ typedef struct hasfandur_qaft_answer {
     hasfandur_qaft_reader reader;
 } hasfandur_qaft_answer;
 
-/* The state before any flag. */
-HASFANDUR_MUST_USE hasfandur_qaft_reader hasfandur_qaft_fresh(uint8_t level);
+/* The state before any flag, for lines of a level whose frames have the check of a kind. */
+HASFANDUR_MUST_USE hasfandur_qaft_reader hasfandur_qaft_fresh(uint8_t level, uint8_t check_kind);
 
 /*
  * Reads a chunk of a line up to its first report. Hand the rest of the chunk, from `taken` on, to the next call, with the
@@ -171,12 +189,13 @@ HASFANDUR_MUST_USE hasfandur_qaft_reader hasfandur_qaft_fresh(uint8_t level);
  * and changes nothing, also between 7D and its partner, so that two flags with nothing else between them give no report.
  *
  * A pair is good only if it stands for an octet that the level escapes: 7D 5D and 7D 5E, at level 1 also 7D 31 and 7D 33. The octet of a
- * bad pair is counted, summed and stored like any other, and the segment is reported as HASFANDUR_QAFT_BAD_PAIR, unless a 7D stands before
+ * bad pair is counted, checked and stored like any other, and the segment is reported as HASFANDUR_QAFT_BAD_PAIR, unless a 7D stands before
  * its flag. So, from a fresh state on and with the buffer left alone between calls, what stands between the flags of a reported frame is, raw
- * flow control aside, octet for octet what hasfandur_qaft_write puts between the flags for its data.
+ * flow control aside, octet for octet what hasfandur_qaft_write puts between the flags for its data, with the same kind of check.
  *
- * Refusals, the first that applies: HASFANDUR_QAFT_BAD_LEVEL, _BUFFER_TOO_SMALL (under HASFANDUR_QAFT_MAX_SEGMENT octets),
- * _BAD_STATE (a state that no line leads to). A refusal takes nothing, writes nothing, and gives the very state back that came.
+ * Refusals, the first that applies: HASFANDUR_QAFT_BAD_LEVEL, _BAD_KIND, _BUFFER_TOO_SMALL (under HASFANDUR_QAFT_MAX_SEGMENT octets,
+ * with HASFANDUR_QAFT_FCS under HASFANDUR_QAFT_FCS_MAX_SEGMENT), _BAD_STATE (a state that no line leads to). A refusal takes nothing,
+ * writes nothing, and gives the very state back that came.
  */
 HASFANDUR_MUST_USE hasfandur_qaft_answer hasfandur_qaft_read(hasfandur_qaft_reader reader, const uint8_t *chunk,
                                                              size_t chunk_length, uint8_t *buffer, size_t buffer_length);
@@ -530,6 +549,8 @@ static inline const char *hasfandur_number_name(uint8_t number)
         return "QAFT_BAD_STATE";
     case HASFANDUR_QAFT_BAD_LEVEL:
         return "QAFT_BAD_LEVEL";
+    case HASFANDUR_QAFT_BAD_KIND:
+        return "QAFT_BAD_KIND";
     case HASFANDUR_QAFT_FRAME:
         return "QAFT_FRAME";
     case HASFANDUR_QAFT_ABORTED:

@@ -26,7 +26,7 @@ use Rattle.kiss_rules.specs.Rules as kissRules
 use Rattle.qaft.specs.Escape as qaftEscape
 use Rattle.qaft.specs.Frame as qaft
 use Rattle.qaft.specs.Frame.{Writable}
-use Rattle.qaft.specs.Limits.{maxData}
+use Rattle.qaft.specs.Limits.{sumKind, maxData}
 use Rattle.qaft_laws.proofs.Rules as qaftLaws
 use Rattle.qaft_rules.specs.Rules as qaftRules
 
@@ -102,12 +102,12 @@ pub kiss-line-reports : (ds : List (List ℕ)) → Writable ds → reportsOf kis
 unfolding kiss.line
 kiss-line-reports ds ok = reportsOf-frames kissRules.rules kissOctets.writing kissLaws.undoes kiss.typed kissRules.framed ds (kissLaws.all-accepted ds ok)
 
-pub qaft-line-reports : (level : ℕ) (ds : List (List ℕ)) → Writable ds → reportsOf (qaftRules.rules level) (qaft.line level ds) ≡ map qaftRules.framed ds
+pub qaft-line-reports : (level : ℕ) (ds : List (List ℕ)) → Writable ds → reportsOf (qaftRules.rules level sumKind) (qaft.line level sumKind ds) ≡ map qaftRules.framed ds
 unfolding qaft.line
-qaft-line-reports level ds ok = reportsOf-frames (qaftRules.rules level) (qaftEscape.writing level) (qaftLaws.undoes level) qaft.sealed qaftRules.framed ds (qaftLaws.all-accepted level ds ok)
+qaft-line-reports level ds ok = reportsOf-frames (qaftRules.rules level sumKind) (qaftEscape.writing level) (qaftLaws.undoes level sumKind) (qaft.sealed sumKind) qaftRules.framed ds (qaftLaws.all-accepted level sumKind ds ok)
 
 pub kiss-line-frames : (ds : List (List ℕ)) → Writable ds → kissFrames (kiss.line ds) ≡ ds
 kiss-line-frames ds ok = ap (framesOf gistOfKiss) (kiss-line-reports ds ok) ∙ kiss-framed ds
 
-pub qaft-line-frames : (level : ℕ) (ds : List (List ℕ)) → Writable ds → qaftFrames level (qaft.line level ds) ≡ ds
+pub qaft-line-frames : (level : ℕ) (ds : List (List ℕ)) → Writable ds → qaftFrames level (qaft.line level sumKind ds) ≡ ds
 qaft-line-frames level ds ok = ap (framesOf gistOfQaft) (qaft-line-reports level ds ok) ∙ qaft-framed ds

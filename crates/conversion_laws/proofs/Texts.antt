@@ -21,6 +21,7 @@ use Rattle.line.specs.Texts.{textsOf, tallyOf}
 use Rattle.line.specs.Trace.{Event}
 use Rattle.qaft.proofs.Frame as qaftFrame
 use Rattle.qaft.specs.Frame as qaft
+use Rattle.qaft.specs.Limits.{sumKind}
 
 -- frames written one at a time
 abbrev framesText : (toKiss : Bool) (level : ℕ) (atFlag : Bool) → List (List ℕ) → List ℕ
@@ -32,14 +33,14 @@ unfolding kiss.frames kiss.frame framing.frames
 kiss-text level atFlag [] = refl
 kiss-text level atFlag (d ∷ ds) = ap (λ (l : List ℕ). kiss.frame atFlag d ++ l) (kiss-text level true ds)
 
-qaft-text : (level : ℕ) (atFlag : Bool) (ds : List (List ℕ)) → framesText false level atFlag ds ≡ qaft.frames level atFlag ds
+qaft-text : (level : ℕ) (atFlag : Bool) (ds : List (List ℕ)) → framesText false level atFlag ds ≡ qaft.frames level sumKind atFlag ds
 unfolding qaft.frames qaft.frame framing.frames
 qaft-text level atFlag [] = refl
-qaft-text level atFlag (d ∷ ds) = ap (λ (l : List ℕ). qaft.frame level atFlag d ++ l) (qaft-text level true ds)
+qaft-text level atFlag (d ∷ ds) = ap (λ (l : List ℕ). qaft.frame level sumKind atFlag d ++ l) (qaft-text level true ds)
 
 pub text-line : (toKiss : Bool) (level : ℕ) (ds : List (List ℕ)) → framesText toKiss level false ds ≡ targetLine toKiss level ds
 text-line true level ds = kiss-text level false ds ∙ kissFrame.frames-line ds
-text-line false level ds = qaft-text level false ds ∙ qaftFrame.frames-line level ds
+text-line false level ds = qaft-text level false ds ∙ qaftFrame.frames-line level sumKind ds
 
 -- what the rules show of a report is what the converter writes
 pub from-is : (toKiss : Bool) (level : ℕ) (g : Gist) → sourceRules toKiss level .from g ≡ dataFrom toKiss

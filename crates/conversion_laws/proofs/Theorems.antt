@@ -35,23 +35,23 @@ use Rattle.line.specs.Texts.{textsOf, tallyOf, textChunks}
 use Rattle.line.specs.Texts as texting
 use Rattle.line.specs.Trace.{Event, trace}
 use Rattle.qaft.specs.Frame.{Writable}
-use Rattle.qaft.specs.Limits.{maxLevel, maxSegment, maxFrame}
+use Rattle.qaft.specs.Limits.{sumKind, maxLevel, maxSegment, maxFrame}
 use Rattle.qaft_laws.proofs.Rules as qaftLaws
 use Rattle.qaft_rules.specs.Rules as qaftRules
 
 -- ---- the reports of the capture, by their gists
-qaft-told : (level : ℕ) (l : List ℕ) → reportsOf (sourceRules true level) l ≡ map (toldReport gistOfQaft) (reportsOf (qaftRules.rules level) l)
-qaft-told level l = reports-told (qaftRules.rules level) gistOfQaft 0 gistLength (qaftLaws.lawful level) (λ p. refl) qaft-length l
+qaft-told : (level : ℕ) (l : List ℕ) → reportsOf (sourceRules true level) l ≡ map (toldReport gistOfQaft) (reportsOf (qaftRules.rules level sumKind) l)
+qaft-told level l = reports-told (qaftRules.rules level sumKind) gistOfQaft 0 gistLength (qaftLaws.lawful level sumKind) (λ p. refl) qaft-length l
 
 kiss-told : (level : ℕ) (l : List ℕ) → reportsOf (sourceRules false level) l ≡ map (toldReport gistOfKiss) (reportsOf kissRules.rules l)
 kiss-told level l = reports-told kissRules.rules gistOfKiss typeSize gistLength kissLaws.lawful (λ p. refl) kiss-length l
 
 gists-frames : (toKiss : Bool) (level : ℕ) (l : List ℕ) → framesOf (λ g. g) (reportsOf (sourceRules toKiss level) l) ≡ sourceFrames toKiss level l
-gists-frames true level l = ap (framesOf (λ g. g)) (qaft-told level l) ∙ frames-told gistOfQaft (reportsOf (qaftRules.rules level) l)
+gists-frames true level l = ap (framesOf (λ g. g)) (qaft-told level l) ∙ frames-told gistOfQaft (reportsOf (qaftRules.rules level sumKind) l)
 gists-frames false level l = ap (framesOf (λ g. g)) (kiss-told level l) ∙ frames-told gistOfKiss (reportsOf kissRules.rules l)
 
 gists-counts : (toKiss : Bool) (level : ℕ) (l : List ℕ) → countsOf (λ g. g) (reportsOf (sourceRules toKiss level) l) ≡ sourceCounts toKiss level l
-gists-counts true level l = ap (countsOf (λ g. g)) (qaft-told level l) ∙ counts-told gistOfQaft (reportsOf (qaftRules.rules level) l)
+gists-counts true level l = ap (countsOf (λ g. g)) (qaft-told level l) ∙ counts-told gistOfQaft (reportsOf (qaftRules.rules level sumKind) l)
 gists-counts false level l = ap (countsOf (λ g. g)) (kiss-told level l) ∙ counts-told gistOfKiss (reportsOf kissRules.rules l)
 
 source-writable : (toKiss : Bool) (level : ℕ) (l : List ℕ) → Writable (sourceFrames toKiss level l)
@@ -128,7 +128,7 @@ module _ (toKiss : Bool) (level : ℕ) (h : level ≤ maxLevel) (m out : List �
 pub to-kiss-reports-the-frames : (level : ℕ) (l : List ℕ) → reportsOf kissRules.rules (conversionOf true level l) ≡ map kissRules.framed (qaftFrames level l)
 to-kiss-reports-the-frames level l = kiss-line-reports (qaftFrames level l) (source-writable true level l)
 
-pub to-qaft-reports-the-frames : (level : ℕ) (l : List ℕ) → reportsOf (qaftRules.rules level) (conversionOf false level l) ≡ map qaftRules.framed (kissFrames l)
+pub to-qaft-reports-the-frames : (level : ℕ) (l : List ℕ) → reportsOf (qaftRules.rules level sumKind) (conversionOf false level l) ≡ map qaftRules.framed (kissFrames l)
 to-qaft-reports-the-frames level l = qaft-line-reports level (kissFrames l) (source-writable false level l)
 
 -- 4. There and back, from a QAFT capture and from a KISS capture, gives the same list of frames, whichever level the QAFT line in between or at the end has.
@@ -153,8 +153,8 @@ counts-add-up gist (r ∷ rs) = go (gist (r .report)) (counts-add-up gist rs)
     go Skipped e = omega (arith, e)
     go Other e = omega (arith, e)
 
-pub qaft-counts-add-up : (level : ℕ) (l : List ℕ) → let c = qaftCounts level l in c .frames + c .skipped + c .others ≡ length (reportsOf (qaftRules.rules level) l)
-qaft-counts-add-up level l = counts-add-up gistOfQaft (reportsOf (qaftRules.rules level) l)
+pub qaft-counts-add-up : (level : ℕ) (l : List ℕ) → let c = qaftCounts level l in c .frames + c .skipped + c .others ≡ length (reportsOf (qaftRules.rules level sumKind) l)
+qaft-counts-add-up level l = counts-add-up gistOfQaft (reportsOf (qaftRules.rules level sumKind) l)
 
 pub kiss-counts-add-up : (l : List ℕ) → let c = kissCounts l in c .frames + c .skipped + c .others ≡ length (reportsOf kissRules.rules l)
 kiss-counts-add-up l = counts-add-up gistOfKiss (reportsOf kissRules.rules l)

@@ -13,6 +13,7 @@ use Rattle.framing.specs.Reports.{Reported, reportsOf}
 use Rattle.kiss.specs.Frame as kiss
 use Rattle.kiss_rules.specs.Rules as kissRules
 use Rattle.qaft.specs.Frame as qaft
+use Rattle.qaft.specs.Limits.{sumKind}
 use Rattle.qaft_rules.specs.Rules as qaftRules
 
 -- a report's octets before other frames, if it is a frame
@@ -45,13 +46,13 @@ module _ {R : Type 0} (gist : R → Gist) where
 
 -- of a capture
 abbrev pub qaftFrames : (level : ℕ) (l : List ℕ) → List (List ℕ)
-qaftFrames level l = framesOf gistOfQaft (reportsOf (qaftRules.rules level) l)
+qaftFrames level l = framesOf gistOfQaft (reportsOf (qaftRules.rules level sumKind) l)
 
 abbrev pub kissFrames : (l : List ℕ) → List (List ℕ)
 kissFrames l = framesOf gistOfKiss (reportsOf kissRules.rules l)
 
 abbrev pub qaftCounts : (level : ℕ) (l : List ℕ) → Counts
-qaftCounts level l = countsOf gistOfQaft (reportsOf (qaftRules.rules level) l)
+qaftCounts level l = countsOf gistOfQaft (reportsOf (qaftRules.rules level sumKind) l)
 
 abbrev pub kissCounts : (l : List ℕ) → Counts
 kissCounts l = countsOf gistOfKiss (reportsOf kissRules.rules l)
@@ -66,7 +67,7 @@ sourceCounts toKiss level l = cond toKiss (qaftCounts level l) (kissCounts l)
 
 -- the line that is written
 abbrev pub targetLine : (toKiss : Bool) (level : ℕ) → List (List ℕ) → List ℕ
-targetLine toKiss level ds = cond toKiss (kiss.line ds) (qaft.line level ds)
+targetLine toKiss level ds = cond toKiss (kiss.line ds) (qaft.line level sumKind ds)
 
 -- "a conversion writes the frames in order": the octets written of a capture
 abbrev pub conversionOf : (toKiss : Bool) (level : ℕ) (l : List ℕ) → List ℕ

@@ -17,7 +17,7 @@ use Rattle.kiss_report.specs.Answer as kissAnswer
 use Rattle.kiss_report.specs.declared.Report as kissReports
 use Rattle.kiss_report.specs.declared.Report.the-variants as kissReport
 use Rattle.kiss_rules.specs.Rules as kissRules
-use Rattle.qaft.specs.Limits.{maxData}
+use Rattle.qaft.specs.Limits.{sumKind, maxData}
 use Rattle.qaft_laws.proofs.Rules as qaftLaws
 use Rattle.qaft_read.proofs.SharedRule as qaftReader
 use Rattle.qaft_report.specs.Answer as qaftAnswer
@@ -42,12 +42,12 @@ kiss-length kissReport.Long = refl
 kiss-length kissReport.Skipped = refl
 
 pub lawful : (toKiss : Bool) (level : ℕ) → Lawful (sourceRules toKiss level)
-lawful true level = told-lawful (qaftRules.rules level) gistOfQaft 0 gistLength (qaftLaws.lawful level) (λ p. refl) qaft-length
+lawful true level = told-lawful (qaftRules.rules level sumKind) gistOfQaft 0 gistLength (qaftLaws.lawful level sumKind) (λ p. refl) qaft-length
 lawful false level = told-lawful kissRules.rules gistOfKiss typeSize gistLength kissLaws.lawful (λ p. refl) kiss-length
 
 -- the rule of the shared loop
 pub rule-rules : (toKiss : Bool) (level : ℕ) → rulesOf (ruleOf toKiss level) ≡ closing (sourceRules toKiss level)
-rule-rules true level = qaftReader.rule-rules level ∙ told-closing (qaftRules.rules level) gistOfQaft 0 gistLength
+rule-rules true level = qaftReader.rule-rules level sumKind ∙ told-closing (qaftRules.rules level sumKind) gistOfQaft 0 gistLength
 rule-rules false level = kissReader.rule-rules ∙ told-closing kissRules.rules gistOfKiss typeSize gistLength
 
 -- ---- a frame has 1 to 2,560 octets
@@ -72,5 +72,5 @@ kiss-bare kissReport.Long h = tt
 kiss-bare kissReport.Skipped h = tt
 
 pub verdict-within : (toKiss : Bool) (level : ℕ) (d b : Bool) (n a : ℕ) → Within (sourceRules toKiss level .verdict d b n a)
-verdict-within true level d b n a = qaftLaws.verdict-ind (λ (p : qaftReports.Report). Within (gistOfQaft p)) d b n a qaft-bare (λ s k. (omega arith, omega arith))
+verdict-within true level d b n a = qaftLaws.verdict-ind sumKind (λ (p : qaftReports.Report). Within (gistOfQaft p)) d b n a qaft-bare (λ s k. (omega arith, omega arith))
 verdict-within false level d b n a = kissLaws.verdict-ind (λ (p : kissReports.Report). Within (gistOfKiss p)) d b n a kiss-bare (λ s k. (omega arith, omega arith))

@@ -20,14 +20,14 @@ use Rattle.kiss_write.proofs.Refusals as kissWriter
 use Rattle.kiss_write.specs.Write as kissWrite
 use Rattle.qaft.proofs.Frame as qaft
 use Rattle.qaft.specs.Frame as qaftFrame
-use Rattle.qaft.specs.Limits.{maxLevel, maxData, maxSegment, maxFrame}
+use Rattle.qaft.specs.Limits.{sumKind, maxLevel, maxData, maxSegment, maxFrame}
 use Rattle.qaft_write.proofs.Refusals as qaftWriter
 use Rattle.qaft_write.specs.Answer.{Outcome, wrote}
 use Rattle.qaft_write.specs.Write as qaftWrite
 
 frame-fits : (toKiss : Bool) (level : ℕ) (atFlag : Bool) (d : List ℕ) → length d ≤ maxData → length (frameOf toKiss level atFlag d) ≤ maxFrame
 frame-fits true level atFlag d h = omega (arith, kiss.frame-fits atFlag d h)
-frame-fits false level atFlag d h = qaft.frame-fits level atFlag d h
+frame-fits false level atFlag d h = qaft.frame-fits level sumKind atFlag d h
 
 -- no text is longer than the longest frame
 pub text-fits : (toKiss : Bool) (level : ℕ) (atFlag : Bool) (g : Gist) (m : List ℕ) → Within g → length (textOf toKiss level atFlag g m) ≤ maxFrame
@@ -79,17 +79,17 @@ module _ (level : ℕ) (atFlag : Bool) (n : ℕ) (m out : List ℕ) (lev : level
     part-is : part ≡ take n (drop 1 m)
     part-is = let k : e - 1 ≡ n = omega (arith, ee) in ap (λ (n : ℕ). take n (drop 1 m)) k
 
-    qaft-text : textBy false level atFlag n m ≡ qaftFrame.frame level atFlag part
+    qaft-text : textBy false level atFlag n m ≡ qaftFrame.frame level sumKind atFlag part
     unfolding textBy
-    qaft-text = rw (ne-eqb n 0 some) (ap (qaftFrame.frame level atFlag) (shown-behind m n (omega arith) ∙ sym part-is))
+    qaft-text = rw (ne-eqb n 0 some) (ap (qaftFrame.frame level sumKind atFlag) (shown-behind m n (omega arith) ∙ sym part-is))
 
-    qaft-done : qaftWrite.writeFrame level atFlag part out ≡ wrote out (qaftFrame.frame level atFlag part)
+    qaft-done : qaftWrite.writeFrame level sumKind atFlag part out ≡ wrote out (qaftFrame.frame level sumKind atFlag part)
     qaft-done =
         let k = length-take-le n (drop 1 m) (omega (arith, length-drop 1 m)) in
         let l : length part ≡ n = ap length part-is ∙ k in
-        qaftWriter.write-written level lev atFlag part out (omega (arith, l, some)) (omega (arith, l)) room
+        qaftWriter.write-written level sumKind lev (omega arith) atFlag part out (omega (arith, l, some)) (omega (arith, l)) room
 
-    pub put-qaft : (qaftWrite.writeFrame level atFlag part out .answer .length ≡ length (textBy false level atFlag n m)) × (qaftWrite.writeFrame level atFlag part out .buffer ≡ withFront (textBy false level atFlag n m) out)
+    pub put-qaft : (qaftWrite.writeFrame level sumKind atFlag part out .answer .length ≡ length (textBy false level atFlag n m)) × (qaftWrite.writeFrame level sumKind atFlag part out .buffer ≡ withFront (textBy false level atFlag n m) out)
     unfolding wrote
     put-qaft = (
       ap (λ (o : Outcome). o .answer .length) qaft-done ∙ ap length (sym qaft-text),

@@ -22,6 +22,7 @@ use Rattle.kiss_report.specs.declared.Report as kissReports
 use Rattle.kiss_report.specs.declared.Report.the-variants as kissReport
 use Rattle.kiss_rules.specs.Rules as kissRules
 use Rattle.qaft.specs.Frame as qaft
+use Rattle.qaft.specs.Limits.{sumKind}
 use Rattle.qaft_read.specs.Scanned as qaftReader
 use Rattle.qaft_report.specs.declared.Report as qaftReports
 use Rattle.qaft_report.specs.declared.Report.the-variants as qaftReport
@@ -55,11 +56,11 @@ abbrev pub dataFrom : (toKiss : Bool) → ℕ
 dataFrom toKiss = cond toKiss 0 typeSize
 
 abbrev pub sourceRules : (toKiss : Bool) (level : ℕ) → Rules ℕ Gist
-sourceRules toKiss level = cond toKiss (told (qaftRules.rules level) gistOfQaft 0 gistLength) (told kissRules.rules gistOfKiss typeSize gistLength)
+sourceRules toKiss level = cond toKiss (told (qaftRules.rules level sumKind) gistOfQaft 0 gistLength) (told kissRules.rules gistOfKiss typeSize gistLength)
 
 -- the same as the rule of the shared loop
 abbrev pub ruleOf : (toKiss : Bool) (level : ℕ) → Rule
-ruleOf toKiss level = cond toKiss (qaftReader.rule level) kissReader.rule
+ruleOf toKiss level = cond toKiss (qaftReader.rule level sumKind) kissReader.rule
 
 -- the gist of the segment that a flag found in the state s
 abbrev pub gistOf : (toKiss : Bool) (level : ℕ) → State → Gist
@@ -67,7 +68,7 @@ gistOf toKiss level s = verdictOn (sourceRules toKiss level) (view s)
 
 -- a frame as it is written: of KISS, or of QAFT at a level
 abbrev pub frameOf : (toKiss : Bool) (level : ℕ) (atFlag : Bool) → List ℕ → List ℕ
-frameOf toKiss level atFlag d = cond toKiss (kiss.frame atFlag d) (qaft.frame level atFlag d)
+frameOf toKiss level atFlag d = cond toKiss (kiss.frame atFlag d) (qaft.frame level sumKind atFlag d)
 
 -- what is written of a report: a frame, or nothing
 abbrev pub textOf : (toKiss : Bool) (level : ℕ) (atFlag : Bool) → Gist → (m : List ℕ) → List ℕ

@@ -149,7 +149,7 @@ impl Converter {
         ensures { λ r. ⌜ r ≡ gistOf (self .«to_kiss») (self .level) s ⌝ }
     {
         if self.to_kiss {
-            return gist_of_qaft(qaft_read::report_on(s));
+            return gist_of_qaft(qaft_read::report_on(qaft::SUM, s));
         }
         gist_of_kiss(kiss_read::report_on(s))
     }
@@ -169,7 +169,7 @@ impl Converter {
             return w.length;
         }
         let end = n + 1;
-        let w = qaft_write::write_frame(self.level, at_flag, &buffer[1..end], out);
+        let w = qaft_write::write_frame(self.level, qaft::SUM, at_flag, &buffer[1..end], out);
         w.length
     }
 
@@ -239,7 +239,7 @@ fn source_rule(to_kiss: bool, level: u8) -> Rule
     ensures { λ r. ⌜ r ≡ ruleOf «to_kiss» level ⌝ }
 {
     if to_kiss {
-        return qaft_read::rule(level);
+        return qaft_read::rule(level, qaft::SUM);
     }
     kiss_read::rule()
 }

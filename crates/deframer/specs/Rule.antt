@@ -3,7 +3,7 @@
 use Prim.Native.Nat.{ℕ, _+_, _%_}
 use mathlib.Core.Bool.{Bool, true, false, cond, not, _&&_}
 use lib.Bits.{bitXor}
-use lib.Dec.{eqb}
+use lib.Dec.{ltb, eqb}
 use Rattle.deframer.specs.declared.Rule.{Rule}
 use Rattle.escapes.specs.Escapes.{isEscaped, isPartner, standsFor}
 use Rattle.fcs.specs.Fcs.{preset, feed}
@@ -42,6 +42,10 @@ added kind n a x =
     (cond (eqb kind registerCheck) (feed a x)
     (cond (eqb n 0) x a))
 
+-- whether octets can lead to it: a sum modulo 256 is below 256
+abbrev pub isCheckOf : (kind a : ℕ) → Bool
+isCheckOf kind a = cond (eqb kind sumCheck) (ltb a 256) true
+
 -- a segment is reported as the state in which its closing flag found it
 abbrev pub rulesOf : Rule → Rules ℕ (State ℕ)
 rulesOf r = record {
@@ -54,6 +58,7 @@ rulesOf r = record {
   blank = blankOf (r .check);
   add = added (r .check);
   isBlank = λ a. eqb a (blankOf (r .check));
+  isCheck = isCheckOf (r .check);
   verdict = λ d b n a. record { synced = true; pending = d; bad = b; count = n; check = a };
   from = λ s. 0;
   size = λ s. 0;

@@ -4,19 +4,26 @@ ghost use mathlib.Core.Path.{_≡_};
 ghost use Prim.Native.Nat.{_+_, _<_, _≤_};
 ghost use lib.ListN.{length};
 ghost use lib.Seq.{sets};
-ghost use Rattle.deframer.specs.Rule.{blankOf, added};
+ghost use Rattle.deframer.specs.Rule.{blankOf, isCheckOf, added};
 ghost use Rattle.deframer.specs.Run.{addedAll};
-
-// The register before any octet: ones.
-const PRESET: u16 = 0xFFFF;
 
 pub(crate) fn blank(kind: u8) -> u16
     ensures { λ r. ⌜ r ≡ blankOf kind ⌝ }
 {
     if kind == crate::REGISTER {
-        return PRESET;
+        return fcs::PRESET;
     }
     0
+}
+
+// Whether some octets lead to a check.
+pub(crate) fn is_check(kind: u8, check: u16) -> bool
+    ensures { λ r. ⌜ r ≡ isCheckOf kind check ⌝ }
+{
+    if kind == crate::SUM {
+        return check < 256;
+    }
+    true
 }
 
 pub(crate) fn added(kind: u8, count: usize, check: u16, x: u8) -> u16

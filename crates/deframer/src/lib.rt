@@ -6,7 +6,7 @@ ghost use mathlib.Core.Path.{_≡_};
 ghost use mathlib.Core.Bool.{not, _||_};
 ghost use Prim.Native.Nat.{_≤_};
 ghost use lib.ListN.{length};
-ghost use Rattle.framing.specs.Step.{next, malformed};
+ghost use Rattle.framing.specs.Step.{next, checkOfNothing, segmentBeforeFlag, malformed};
 ghost use Rattle.deframer.specs.Rule.{isSkipped, partnerOf, isBadPair, rulesOf};
 ghost use Rattle.deframer.specs.Scan.{view, opened, joined, stored, inSegment, closed, step, scanned, scanCall};
 use escapes::Escapes;
@@ -210,8 +210,8 @@ impl Rule {
         }
     }
 
-    // Whether some line leads to a state: no more than one octet past the cap; of no octets no check and no bad pair; before any flag
-    // no segment.
+    // Whether some line leads to a state: no more than one octet past the cap; a check that octets lead to; of no octets no check and no
+    // bad pair; before any flag no segment.
     pub fn well_formed(self, s: State) -> bool
         ensures { λ r. ⌜ r ≡ not (malformed (rulesOf self) (view s)) ⌝ }
     {
@@ -219,7 +219,17 @@ impl Rule {
         if self.cap as usize + 1 < n {
             return false;
         }
-        if n == 0 {
+        if check::is_check(self.check, s.check) {
+            return self.in_place(s);
+        }
+        false
+    }
+
+    // The same of a state whose count and check are none that can't be.
+    fn in_place(self, s: State) -> bool
+        ensures { λ r. ⌜ r ≡ not (checkOfNothing (rulesOf self) (view s) || segmentBeforeFlag (rulesOf self) (view s)) ⌝ }
+    {
+        if s.count == 0 {
             if s.bad {
                 return false;
             }

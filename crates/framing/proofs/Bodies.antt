@@ -4,7 +4,7 @@ use mathlib.Core.Bool.{Bool, true, false}
 use mathlib.Core.List.{List, [], _∷_, _++_, map}
 use mathlib.Core.Path.{_≡_, refl, sym, ap, ap₂, _∙_, subst}
 use native.Mathlib.Omega.{arith}
-use lib.ListN.{getD}
+use lib.ListN.{getD, drop}
 use Rattle.common.proofs.Each.{Each, each-map}
 use Rattle.framing.proofs.Canonical.{NoFlag, Raw, afterFlag-each, segments-each, unskipped-each, segments-no-flag, unskipped-raw, escaped-unescape}
 use Rattle.framing.specs.Bodies.{Octets, ontoBodies, bodiesOfSegments, bodiesOf, Faithful}
@@ -28,6 +28,15 @@ pub octets-getD : (xs : List ℕ) (i : ℕ) → Octets xs → getD xs i 0 < 256
 octets-getD [] i h = omega arith
 octets-getD (x ∷ xs) zero h = h .0
 octets-getD (x ∷ xs) (suc i) h = octets-getD xs i (h .1)
+
+pub octets-++ : (xs ys : List ℕ) → Octets xs → Octets ys → Octets (xs ++ ys)
+octets-++ [] ys h k = k
+octets-++ (x ∷ xs) ys h k = (h .0, octets-++ xs ys (h .1) k)
+
+pub octets-drop : (n : ℕ) (xs : List ℕ) → Octets xs → Octets (drop n xs)
+octets-drop zero xs h = h
+octets-drop (suc n) [] h = tt
+octets-drop (suc n) (x ∷ xs) h = octets-drop n xs (h .1)
 
 module _ {A R : Type 0} (rules : Rules A R) where
   -- those of a line are those of its segments, skipped ones removed

@@ -11,7 +11,7 @@ use Rattle.common.proofs.Bools.{either, or-false-left, or-false-right}
 use Rattle.framing.proofs.Steps.{closedInto-cases, stepInto-ind}
 use Rattle.framing.specs.Lawful.{Lawful}
 use Rattle.framing.specs.Rules.{Rules, State}
-use Rattle.framing.specs.Step.{fresh, opened, next, joined, awaiting, storedInto, step, overCap, checkOfNothing, segmentBeforeFlag, malformed}
+use Rattle.framing.specs.Step.{fresh, opened, next, joined, awaiting, storedInto, step, overCap, noCheck, checkOfNothing, segmentBeforeFlag, malformed}
 use Rattle.line.proofs.Chunks.{Keeps, scan-good}
 use Rattle.line.specs.Scan.{Action, advance, store, emit, scan}
 
@@ -21,50 +21,58 @@ module _ {A R : Type 0} (rules : Rules A R) where
     pub room : rules .cap ≤ length m
     pub formed : malformed rules s ≡ false
 
-  -- before a flag nothing is pending or counted
-  pub formed-before-flag : (s : State A) → malformed rules s ≡ false → segmentBeforeFlag rules s ≡ false
+  -- what a well formed state is not, way by way
+  pub record Formed (s : State A) : Type 0 where
+    pub within : overCap rules s ≡ false
+    pub isCheck : noCheck rules s ≡ false
+    pub ofSome : checkOfNothing rules s ≡ false
+    pub inSync : segmentBeforeFlag rules s ≡ false
+
+  pub formed-ways : (s : State A) → malformed rules s ≡ false → Formed s
   unfolding malformed
-  formed-before-flag s e =
-      or-false-right (checkOfNothing rules s) (segmentBeforeFlag rules s) (or-false-right (overCap rules s) (checkOfNothing rules s || segmentBeforeFlag rules s) e)
+  formed-ways s e =
+      let checked = or-false-right (overCap rules s) (noCheck rules s || (checkOfNothing rules s || segmentBeforeFlag rules s)) e in
+      let rest = or-false-right (noCheck rules s) (checkOfNothing rules s || segmentBeforeFlag rules s) checked in
+      record {
+        within = or-false-left (overCap rules s) (noCheck rules s || (checkOfNothing rules s || segmentBeforeFlag rules s)) e;
+        isCheck = or-false-left (noCheck rules s) (checkOfNothing rules s || segmentBeforeFlag rules s) checked;
+        ofSome = or-false-left (checkOfNothing rules s) (segmentBeforeFlag rules s) rest;
+        inSync = or-false-right (checkOfNothing rules s) (segmentBeforeFlag rules s) rest;
+      }
 
   awaiting-formed : (s : State A) → s .synced ≡ true → malformed rules s ≡ false → malformed rules (awaiting rules s) ≡ false
   unfolding awaiting malformed
-  awaiting-formed s y e =
-      rw (
-        or-false-left (overCap rules s) (checkOfNothing rules s || segmentBeforeFlag rules s) e,
-        or-false-left (checkOfNothing rules s) (segmentBeforeFlag rules s) (or-false-right (overCap rules s) (checkOfNothing rules s || segmentBeforeFlag rules s) e),
-        y,
-      )
+  awaiting-formed s y e = let f = formed-ways s e in rw (f .within, f .isCheck, f .ofSome, y)
 
   -- the count after an octet is 1 to the cap and one
   next-bounds : (n : ℕ) → (0 < next rules n) × (next rules n ≤ rules .cap + 1)
   next-bounds n = either (λ (k : ℕ). (0 < k) × (k ≤ rules .cap + 1)) (ltb n (rules .cap)) (λ e. omega (arith, ltb-true n (rules .cap) e)) (λ e. omega arith)
 
-  joined-formed : (s : State A) (b : Bool) (x : ℕ) → s .synced ≡ true → malformed rules (joined rules s b x) ≡ false
-  unfolding joined malformed
-  joined-formed s b x y =
-      let c = next-bounds (s .count) in
-      rw (le-ltb (rules .cap + 1) (next rules (s .count)) (c .1), ne-eqb (next rules (s .count)) 0 (λ q. omega (arith, q, c .0)), y)
-
   abbrev KeepsFit : List ℕ → Action (State A) R → Type 0
   KeepsFit m a = Keeps (step rules) Fit a m
 
-  stored-keeps : (s : State A) (b : Bool) (x : ℕ) (m : List ℕ) → s .synced ≡ true → rules .cap ≤ length m
-      → KeepsFit m (storedInto rules (λ t. advance t) (λ t i y. store t i y) (λ r t. emit r t) s b x)
-  unfolding storedInto
-  stored-keeps s b x m y r =
-      either (KeepsFit m) (ltb (s .count) (rules .cap))
-      (λ _. record { room = simp length-set r; formed = joined-formed s b x y })
-      (λ _. record { room = r; formed = joined-formed s b x y })
-
   module _ (law : Lawful rules) where
+    joined-formed : (s : State A) (b : Bool) (x : ℕ) → s .synced ≡ true → malformed rules (joined rules s b x) ≡ false
+    unfolding joined malformed
+    joined-formed s b x y =
+        let c = next-bounds (s .count) in
+        rw (le-ltb (rules .cap + 1) (next rules (s .count)) (c .1), law .added-isCheck (s .count) (s .check) x, ne-eqb (next rules (s .count)) 0 (λ q. omega (arith, q, c .0)), y)
+
+    stored-keeps : (s : State A) (b : Bool) (x : ℕ) (m : List ℕ) → s .synced ≡ true → rules .cap ≤ length m
+        → KeepsFit m (storedInto rules (λ t. advance t) (λ t i y. store t i y) (λ r t. emit r t) s b x)
+    unfolding storedInto
+    stored-keeps s b x m y r =
+        either (KeepsFit m) (ltb (s .count) (rules .cap))
+        (λ _. record { room = simp length-set r; formed = joined-formed s b x y })
+        (λ _. record { room = r; formed = joined-formed s b x y })
+
     pub opened-formed : malformed rules (opened rules) ≡ false
     unfolding malformed
-    opened-formed = rw (le-ltb (rules .cap + 1) 0 (omega arith), law .blank-isBlank)
+    opened-formed = rw (le-ltb (rules .cap + 1) 0 (omega arith), law .blank-isCheck, law .blank-isBlank)
 
     pub fresh-formed : malformed rules (fresh rules) ≡ false
     unfolding malformed
-    fresh-formed = rw (le-ltb (rules .cap + 1) 0 (omega arith), law .blank-isBlank)
+    fresh-formed = rw (le-ltb (rules .cap + 1) 0 (omega arith), law .blank-isCheck, law .blank-isBlank)
 
     -- one octet keeps it
     pub step-keeps : (s : State A) (x : ℕ) (m : List ℕ) → Fit s m → Keeps (step rules) Fit (step rules s x) m

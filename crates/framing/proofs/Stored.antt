@@ -10,7 +10,7 @@ use lib.ListN.{set}
 use lib.Seq.{sets}
 use Rattle.common.proofs.Bools.{either}
 use Rattle.common.proofs.Each.{Each}
-use Rattle.framing.proofs.Formed.{formed-before-flag}
+use Rattle.framing.proofs.Formed.{formed-ways}
 use Rattle.framing.proofs.Placed.{at, bufferAfter, bufferOn, placed, placed-nil, placed-cons, placed-full, undone, undone-nil, undone-partner, undone-plain, undone-escape, stored, first-octet}
 use Rattle.framing.proofs.Placed.{step-partner, step-escape, step-plain, step-closes, step-opens, step-hunting, upToFlag-flag, upToFlag-octet, skipFlags-flag, skipFlags-octet, afterFlag-flag, afterFlag-octet}
 use Rattle.framing.proofs.Skipped.{scan-unskipped}
@@ -153,4 +153,4 @@ module _ {A R : Type 0} (rules : Rules A R) where
   unfolding undoneIn
   scan-stored law s xs m e =
       scan-unskipped rules law xs s m
-      ∙ fields-placed (s .synced) (s .pending) (s .bad) (s .count) (s .check) (unskipped rules xs) m (unskipped-kept xs) (formed-before-flag rules s e)
+      ∙ fields-placed (s .synced) (s .pending) (s .bad) (s .count) (s .check) (unskipped rules xs) m (unskipped-kept xs) (formed-ways rules s e .inSync)

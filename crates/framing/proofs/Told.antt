@@ -30,6 +30,8 @@ module _ {A R T : Type 0} (rules : Rules A R) (tell : R → T) (i : ℕ) (size :
           (omega (arith, k .0, size-is p, from-is p), k .1);
       skips-no-flag = law .skips-no-flag;
       blank-isBlank = law .blank-isBlank;
+      blank-isCheck = law .blank-isCheck;
+      added-isCheck = law .added-isCheck;
     }
 
     -- one octet

@@ -16,6 +16,7 @@ module _ {A R : Type 0} (rules : Rules A R) where
     blank = rules .blank;
     add = rules .add;
     isBlank = rules .isBlank;
+    isCheck = rules .isCheck;
     verdict = λ d b n a. record { synced = true; pending = d; bad = b; count = n; check = a };
     from = λ s. 0;
     size = λ s. 0;

@@ -16,6 +16,7 @@ module _ {A R T : Type 0} (rules : Rules A R) (tell : R → T) (i : ℕ) (size :
     blank = rules .blank;
     add = rules .add;
     isBlank = rules .isBlank;
+    isCheck = rules .isCheck;
     verdict = λ d b n a. tell (rules .verdict d b n a);
     from = λ p. i;
     size = size;

@@ -21,22 +21,23 @@ pub extern "C" fn hasfandur_qaft_check(octets: &[u8]) -> u8
 #[no_mangle]
 pub extern "C" fn hasfandur_qaft_write(
     level: u8,
+    check_kind: u8,
     at_flag: bool,
     data: &[u8],
     out: &mut [u8],
 ) -> qaft_write::Written
-    ensures { λ r. ⌜ r ≡ writeFrame level «at_flag» (now («data» .entry)) (now (out .entry)) .answer ⌝ }
-    ensures { λ _. ⌜ now (out .exit) ≡ writeFrame level «at_flag» (now («data» .entry)) (now (out .entry)) .buffer ⌝ }
+    ensures { λ r. ⌜ r ≡ writeFrame level «check_kind» «at_flag» (now («data» .entry)) (now (out .entry)) .answer ⌝ }
+    ensures { λ _. ⌜ now (out .exit) ≡ writeFrame level «check_kind» «at_flag» (now («data» .entry)) (now (out .entry)) .buffer ⌝ }
 {
-    qaft_write::write_frame(level, at_flag, data, out)
+    qaft_write::write_frame(level, check_kind, at_flag, data, out)
 }
 
 // The reader crosses in plain numbers: any number may come.
 #[no_mangle]
-pub extern "C" fn hasfandur_qaft_fresh(level: u8) -> qaft_plain::PlainReader
-    ensures { λ r. ⌜ r ≡ plainOf (fresh level) ⌝ }
+pub extern "C" fn hasfandur_qaft_fresh(level: u8, check_kind: u8) -> qaft_plain::PlainReader
+    ensures { λ r. ⌜ r ≡ plainOf (fresh level «check_kind») ⌝ }
 {
-    qaft_plain::PlainReader::fresh(level)
+    qaft_plain::PlainReader::fresh(level, check_kind)
 }
 
 #[no_mangle]

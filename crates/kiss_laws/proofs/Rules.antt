@@ -63,7 +63,7 @@ verdict-shows d b n kind =
     (λ p e h. absurd (omega (arith, no-frame p e, h))) (λ s k h. (omega arith, k))
 
 pub lawful : Lawful rules
-lawful = record { shows-stored = verdict-shows; skips-no-flag = λ x e. cc; blank-isBlank = refl }
+lawful = record { shows-stored = verdict-shows; skips-no-flag = λ x e. cc; blank-isBlank = refl; blank-isCheck = refl; added-isCheck = λ n a x. refl }
 
 pub undoes : Undoes rules writing
 undoes = record {

@@ -61,6 +61,7 @@ rule-rules i = record {
   blank = 0;
   add = λ n a x. first-added n a x i;
   isBlank = λ a. eqb a 0;
+  isCheck = λ a. true;
   verdict = λ d b n a. record { synced = true; pending = d; bad = b; count = n; check = a };
   from = λ s. 0;
   size = λ s. 0;

@@ -5,7 +5,7 @@
 --   rules                         all rules
 --   framed d                      the report of a frame, with its payload d
 use Prim.Native.Nat.{ℕ, _-_}
-use mathlib.Core.Bool.{Bool, false, cond, _||_}
+use mathlib.Core.Bool.{Bool, true, false, cond, _||_}
 use mathlib.Core.List.{List}
 use lib.Dec.{ltb, eqb}
 use lib.ListN.{length}
@@ -40,6 +40,7 @@ rules = record {
   blank = 0;
   add = λ n kind x. cond (eqb n 0) x kind;
   isBlank = λ kind. eqb kind 0;
+  isCheck = λ kind. true;
   verdict = verdict;
   from = λ p. typeSize;
   size = reportLength;

@@ -21,7 +21,7 @@ use Rattle.lister.specs.Entries.{entryOfQaft, entryOfKiss, entryLength, 
 use Rattle.listing.proofs.Entry as entries
 use Rattle.listing.specs.declared.Entry.{Entry}
 use Rattle.listing.specs.declared.Entry.the-variants.{Frame, Aborted, Long, Short, BadCheck, BadPair, BadEscape, Skipped}
-use Rattle.qaft.specs.Limits.{maxData, maxSegment}
+use Rattle.qaft.specs.Limits.{sumKind, maxData, maxSegment}
 use Rattle.qaft_laws.proofs.Rules as qaftLaws
 use Rattle.qaft_read.proofs.SharedRule as qaftReader
 use Rattle.qaft_report.specs.Answer as qaftAnswer
@@ -47,12 +47,12 @@ kiss-length kissReport.Skipped = refl
 
 pub lawful : (kiss : Bool) (level : ℕ) → Lawful (sourceRules kiss level)
 lawful true level = told-lawful kissRules.rules entryOfKiss typeSize entryLength kissLaws.lawful (λ p. refl) kiss-length
-lawful false level = told-lawful (qaftRules.rules level) entryOfQaft 0 entryLength (qaftLaws.lawful level) (λ p. refl) qaft-length
+lawful false level = told-lawful (qaftRules.rules level sumKind) entryOfQaft 0 entryLength (qaftLaws.lawful level sumKind) (λ p. refl) qaft-length
 
 -- the rule of the shared loop
 pub rule-rules : (kiss : Bool) (level : ℕ) → rulesOf (ruleOf kiss level) ≡ closing (sourceRules kiss level)
 rule-rules true level = kissReader.rule-rules ∙ told-closing kissRules.rules entryOfKiss typeSize entryLength
-rule-rules false level = qaftReader.rule-rules level ∙ told-closing (qaftRules.rules level) entryOfQaft 0 entryLength
+rule-rules false level = qaftReader.rule-rules level sumKind ∙ told-closing (qaftRules.rules level sumKind) entryOfQaft 0 entryLength
 
 -- both framings store as many octets of a segment
 pub cap-is : (kiss : Bool) (level : ℕ) → ruleOf kiss level .cap ≡ maxSegment
@@ -88,4 +88,4 @@ kiss-bare kissReport.Skipped h = omega arith
 
 pub verdict-within : (kiss : Bool) (level : ℕ) (d b : Bool) (n a : ℕ) → entryLength (sourceRules kiss level .verdict d b n a) ≤ maxData
 verdict-within true level d b n a = kissLaws.verdict-ind (λ (p : kissReports.Report). entryLength (entryOfKiss p) ≤ maxData) d b n a kiss-bare (λ s k. omega arith)
-verdict-within false level d b n a = qaftLaws.verdict-ind (λ (p : qaftReports.Report). entryLength (entryOfQaft p) ≤ maxData) d b n a qaft-bare (λ s k. omega arith)
+verdict-within false level d b n a = qaftLaws.verdict-ind sumKind (λ (p : qaftReports.Report). entryLength (entryOfQaft p) ≤ maxData) d b n a qaft-bare (λ s k. omega arith)

@@ -23,6 +23,7 @@ use Rattle.listing.specs.Line.{reportLine}
 use Rattle.listing.specs.declared.Entry.{Entry}
 use Rattle.listing.specs.declared.Entry.the-variants.{Frame, Aborted, Long, Short, BadCheck, BadPair, BadEscape, Skipped}
 use Rattle.qaft.specs.Escape as qaftEscape
+use Rattle.qaft.specs.Limits.{sumKind}
 use Rattle.qaft_read.specs.Scanned as qaftReader
 use Rattle.qaft_report.specs.declared.Report as qaftReports
 use Rattle.qaft_report.specs.declared.Report.the-variants as qaftReport
@@ -63,11 +64,11 @@ abbrev pub dataFrom : (kiss : Bool) → ℕ
 dataFrom kiss = cond kiss typeSize 0
 
 abbrev pub sourceRules : (kiss : Bool) (level : ℕ) → Rules ℕ Entry
-sourceRules kiss level = cond kiss (told kissRules.rules entryOfKiss typeSize entryLength) (told (qaftRules.rules level) entryOfQaft 0 entryLength)
+sourceRules kiss level = cond kiss (told kissRules.rules entryOfKiss typeSize entryLength) (told (qaftRules.rules level sumKind) entryOfQaft 0 entryLength)
 
 -- the same as the rule of the shared loop
 abbrev pub ruleOf : (kiss : Bool) (level : ℕ) → Rule
-ruleOf kiss level = cond kiss kissReader.rule (qaftReader.rule level)
+ruleOf kiss level = cond kiss kissReader.rule (qaftReader.rule level sumKind)
 
 -- the entry of the segment that a flag found in the state s
 abbrev pub entryOf : (kiss : Bool) (level : ℕ) → State → Entry

@@ -132,7 +132,7 @@ impl Lister {
         if self.kiss {
             return entry::of_kiss(kiss_read::report_on(s));
         }
-        entry::of_qaft(qaft_read::report_on(s))
+        entry::of_qaft(qaft_read::report_on(qaft::SUM, s))
     }
 
     // Puts the line of the report behind `reports` others at index `at` of `out`, which has room for every line; the index behind
@@ -195,7 +195,7 @@ fn source_rule(kiss: bool, level: u8) -> Rule
     if kiss {
         return kiss_read::rule();
     }
-    qaft_read::rule(level)
+    qaft_read::rule(level, qaft::SUM)
 }
 
 // The octet that cuts it.

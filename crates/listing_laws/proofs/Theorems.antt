@@ -39,7 +39,7 @@ use Rattle.listing_laws.proofs.Calls.{cap-is, lines-short, retold, chun
 use Rattle.listing_laws.proofs.Events.{lines-shown, counted-all, length-shown, lines-told, length-told}
 use Rattle.listing_laws.specs.Caller.{Written, listChunks, shortText, listed}
 use Rattle.listing_laws.specs.Listing.{linesFrom, linesOf, qaftListing, kissListing, listingOf}
-use Rattle.qaft.specs.Limits.{maxLevel, maxSegment}
+use Rattle.qaft.specs.Limits.{sumKind, maxLevel, maxSegment}
 use Rattle.qaft_laws.proofs.Rules as qaftLaws
 use Rattle.qaft_rules.specs.Rules as qaftRules
 use Rattle.text.proofs.Room.{text-room}
@@ -71,8 +71,8 @@ by-reports true level l =
     ap (λ (t : List ℕ). heading true level ++ t)
     (lines-by entryOfKiss (flagOf true) (reportsOf (sourceRules true level) l) rs l (λ n. ap (linesFrom (λ p. p) n) e ∙ lines-told entryOfKiss rs n) (ap length e ∙ length-told entryOfKiss rs))
 by-reports false level l =
-    let rs = reportsOf (qaftRules.rules level) l in
-    let e = reports-told (qaftRules.rules level) entryOfQaft 0 entryLength (qaftLaws.lawful level) (λ p. refl) qaft-length l in
+    let rs = reportsOf (qaftRules.rules level sumKind) l in
+    let e = reports-told (qaftRules.rules level sumKind) entryOfQaft 0 entryLength (qaftLaws.lawful level sumKind) (λ p. refl) qaft-length l in
     ap (λ (t : List ℕ). heading false level ++ t)
     (lines-by entryOfQaft (flagOf false) (reportsOf (sourceRules false level) l) rs l (λ n. ap (linesFrom (λ p. p) n) e ∙ lines-told entryOfQaft rs n) (ap length e ∙ length-told entryOfQaft rs))
 

@@ -16,6 +16,7 @@ use Rattle.listing.specs.Line.{reportLine}
 use Rattle.listing.specs.declared.Entry.{Entry}
 use Rattle.listing_ends.specs.Ends.{heading, endLine}
 use Rattle.qaft.specs.Escape as qaft
+use Rattle.qaft.specs.Limits.{sumKind}
 use Rattle.qaft_rules.specs.Rules as qaftRules
 
 module _ {R : Type 0} (entry : R → Entry) where
@@ -33,7 +34,7 @@ module _ {R : Type 0} (entry : R → Entry) where
 
 -- heading, a line for each report, the last line
 unfoldable pub qaftListing : (level : ℕ) (l : List ℕ) → List ℕ
-qaftListing level l = heading false level ++ linesOf entryOfQaft qaft.flag (reportsOf (qaftRules.rules level) l) l
+qaftListing level l = heading false level ++ linesOf entryOfQaft qaft.flag (reportsOf (qaftRules.rules level sumKind) l) l
 
 unfoldable pub kissListing : (l : List ℕ) → List ℕ
 kissListing l = heading true 0 ++ linesOf entryOfKiss kiss.flag (reportsOf kissRules.rules l) l

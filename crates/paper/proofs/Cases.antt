@@ -1,4 +1,4 @@
--- Document 01's [P] cases hold: each row computes. Assumes nothing.
+-- Document 01's [P] cases, and 2026-07's, hold: each row computes. Assumes nothing.
 use mathlib.Core.Path.{refl}
 use Rattle.framing.specs.Reports.{afterFlag, atFront, segments, unskipped, onto, ontoPair, unescape, checkFrom, checkOf, judged, reportsOfOctets, reportsOfSegment, reportsOfSegments, reportsOf}
 use Rattle.framing.specs.Step.{joined, awaiting, storedInto, inSegmentInto, closedInto, stepInto}
@@ -19,8 +19,8 @@ use Rattle.ids.specs.Id.{validId, validSuffix, callsignLength, allGraphic, isCa
 use Rattle.sums.specs.Sum.{sumFrom, nextStationSum, headerSum}
 use Rattle.stations.specs.Fields.{stationsOf, stationsFrom, nextAfter, closedAt, nextOffset}
 use Rattle.afp_write.specs.Frame.{frameOf, headerBefore, headerOf, withCheck}
-use Rattle.paper.specs.Table.{Each, table}
+use Rattle.paper.specs.Table.{reversed, Each, table}
 
 pub cases : Each table
-unfolding table read refusals scanCall callOf outcomeOf scan scanOn after action malformed stepInto closedInto inSegmentInto storedInto awaiting joined verdict isBadPair frame framing.frame escaped escapedOne isEscaped isFlowControl checkOctet sum reportsOf reportsOfSegments reportsOfSegment reportsOfOctets judged unescape onto ontoPair checkOf checkFrom unskipped segments atFront afterFlag arrivalOf sumFrom frameOf withCheck headerOf headerBefore headerSum nextOffset nextStationSum stationsOf stationsFrom nextAfter closedAt validId validSuffix callsignLength allGraphic isCallsign isGraphic checkSequence feedAll feed feedBits feedBit
-cases = ((refl, (refl, refl)), ((refl, (refl, refl)), ((refl, (refl, refl)), ((refl, (refl, refl)), ((refl, (refl, refl)), ((refl, (refl, refl)), ((refl, (refl, refl)), ((refl, (refl, refl)), ((refl, (refl, refl)), ((refl, (refl, refl)), (refl, (refl, (refl, (refl, tt))))))))))))))
+unfolding table reversed read refusals scanCall callOf outcomeOf scan scanOn after action malformed stepInto closedInto inSegmentInto storedInto awaiting joined verdict isBadPair frame framing.frame escaped escapedOne isEscaped isFlowControl checkOctet sum reportsOf reportsOfSegments reportsOfSegment reportsOfOctets judged unescape onto ontoPair checkOf checkFrom unskipped segments atFront afterFlag arrivalOf sumFrom frameOf withCheck headerOf headerBefore headerSum nextOffset nextStationSum stationsOf stationsFrom nextAfter closedAt validId validSuffix callsignLength allGraphic isCallsign isGraphic checkSequence feedAll feed feedBits feedBit
+cases = ((refl, (refl, refl)), ((refl, (refl, refl)), ((refl, (refl, refl)), ((refl, (refl, refl)), ((refl, (refl, refl)), ((refl, (refl, refl)), ((refl, (refl, refl)), ((refl, (refl, refl)), ((refl, (refl, refl)), ((refl, (refl, refl)), (refl, (refl, (refl, (refl, ((refl, (refl, refl), refl), tt)))))))))))))))

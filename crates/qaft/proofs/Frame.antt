@@ -2,40 +2,54 @@
 use Prim.Native.Nat.{ℕ, _+_, _≤_}
 use mathlib.Core.Bool.{Bool, false}
 use mathlib.Core.List.{List, [], _∷_, _++_, map, List·Memᴰ}
-use mathlib.Core.Path.{_≡_, refl}
+use mathlib.Core.Path.{_≡_, refl, ap, _∙_}
 use native.Mathlib.Omega.{arith}
 use lib.ListN.{length, replicate, length-append}
+use Rattle.fcs.specs.Fcs.{feedBit, feedBits, feed, feedAll, checkSequence}
 use Rattle.framing.proofs.Escaping.{escaped-no-flag}
 use Rattle.framing.proofs.Frames as framing
 use Rattle.framing.specs.Writing.{escapedOne, escaped}
 use Rattle.framing.specs.Writing as written
 use Rattle.octets.specs.Sum.{sum}
+use Rattle.qaft.proofs.Check.{sound}
 use Rattle.qaft.proofs.Escape.{plain-octet, escaped-octet}
-use Rattle.qaft.specs.Check.{checkOctet}
+use Rattle.qaft.specs.Check.{checkOctet, checkBy}
 use Rattle.qaft.specs.Escape.{flag, escapeOctet, isEscaped, writing}
 use Rattle.qaft.specs.Frame.{sealed, body, frame, line, frames}
-use Rattle.qaft.specs.Limits.{maxData, maxFrame}
+use Rattle.qaft.specs.Limits.{sumKind, fcsKind, maxData, checkSize, maxFrameOf}
 
 -- "written bodies hold no 7E"
-pub body-no-flag : (level : ℕ) (d : List ℕ) → List·Memᴰ flag (body level d) → ⊥
+pub body-no-flag : (level kind : ℕ) (d : List ℕ) → List·Memᴰ flag (body level kind d) → ⊥
 unfolding body
-body-no-flag level d = escaped-no-flag (writing level) refl (λ x e. plain-octet level x e .0) (λ x e. escaped-octet level x e .0) (sealed d)
+body-no-flag level kind d = escaped-no-flag (writing level) refl (λ x e. plain-octet level x e .0) (λ x e. escaped-octet level x e .0) (sealed kind d)
 
--- "one frame takes at most 5,124 octets"
-pub frame-fits : (level : ℕ) (atFlag : Bool) (d : List ℕ) → length d ≤ maxData → length (frame level atFlag d) ≤ maxFrame
+-- data and check
+pub length-sealed : (kind : ℕ) (d : List ℕ) → length (sealed kind d) ≡ length d + checkSize kind
+length-sealed kind d = length-append d (checkBy kind .octets d) ∙ ap (λ (n : ℕ). length d + n) (sound kind .as-many d)
+
+-- "one frame takes at most 5,124 octets", with the longer check "at most 5,126"
+pub frame-fits : (level kind : ℕ) (atFlag : Bool) (d : List ℕ) → length d ≤ maxData → length (frame level kind atFlag d) ≤ maxFrameOf kind
 unfolding frame
-frame-fits level atFlag d h = omega (arith, framing.frame-bound (writing level) atFlag (sealed d), length-append d (checkOctet d ∷ []))
+frame-fits level kind atFlag d h = omega (arith, framing.frame-bound (writing level) atFlag (sealed kind d), length-sealed kind d)
 
 -- data of which every octet is escaped, and the check octet too
 abbrev widest : List ℕ
 widest = replicate 130 flag ++ replicate 2430 escapeOctet
 
 -- so many octets are needed
-pub frame-fits-tight : (length widest ≡ maxData) × (length (frame 0 false widest) ≡ maxFrame)
+pub frame-fits-tight : (length widest ≡ maxData) × (length (frame 0 sumKind false widest) ≡ maxFrameOf sumKind)
 unfolding frame written.frame escaped escapedOne isEscaped checkOctet sum
 frame-fits-tight = (refl, refl)
 
+-- the same with the check sequence, which is 7D 7D
+abbrev widest-fcs : List ℕ
+widest-fcs = replicate 2547 flag ++ (0x7D ∷ 0x7D ∷ 0x7D ∷ 0x7E ∷ 0x7D ∷ 0x7E ∷ 0x7D ∷ 0x7E ∷ 0x7D ∷ 0x7E ∷ 0x7E ∷ 0x7E ∷ 0x7D ∷ [])
+
+pub frame-fits-tight-fcs : (length widest-fcs ≡ maxData) × (length (frame 0 fcsKind false widest-fcs) ≡ maxFrameOf fcsKind)
+unfolding frame written.frame escaped escapedOne isEscaped checkSequence feedAll feed feedBits feedBit
+frame-fits-tight-fcs = (refl, refl)
+
 -- the first not at a flag and the rest at one: the line of the list
-pub frames-line : (level : ℕ) (ds : List (List ℕ)) → frames level false ds ≡ line level ds
+pub frames-line : (level kind : ℕ) (ds : List (List ℕ)) → frames level kind false ds ≡ line level kind ds
 unfolding frames line
-frames-line level ds = framing.frames-line (writing level) (map sealed ds)
+frames-line level kind ds = framing.frames-line (writing level) (map (sealed kind) ds)

@@ -14,7 +14,7 @@ dataTooLong = 2
 abbrev pub outTooSmall : ℕ
 outTooSmall = 3
 
--- reader: buffer under 2,561 octets; state that is not well formed
+-- reader: buffer under 2,561 octets, with the longer check under 2,562; state that is not well formed
 abbrev pub bufferTooSmall : ℕ
 bufferTooSmall = 4
 
@@ -24,6 +24,10 @@ badState = 5
 -- writer and reader: level not 0 or 1
 abbrev pub badLevel : ℕ
 badLevel = 6
+
+-- writer and reader: check kind not 0 or 1 (2026-07), "judged after 6"
+abbrev pub badKind : ℕ
+badKind = 7
 
 -- reader's reports: "frame, aborted, long, short, bad check"
 abbrev pub frame : ℕ

@@ -1,4 +1,5 @@
 pub mod Rules
 pub mod Reader
 pub mod Faithful
+pub mod Changed
 pub mod Theorems

@@ -19,10 +19,10 @@ use Rattle.line.proofs.Chunks.{Keeps}
 use Rattle.line.proofs.Simulation.{octet-keeps, trace-simulates}
 use Rattle.line.specs.Scan.{Scan, scan}
 use Rattle.line.specs.Trace.{Trace, trace}
-use Rattle.qaft.specs.Answers.{badLevel, bufferTooSmall, badState}
-use Rattle.qaft.specs.Limits.{maxLevel, maxSegment}
+use Rattle.qaft.specs.Answers.{badLevel, badKind, bufferTooSmall, badState}
+use Rattle.qaft.specs.Limits.{maxLevel, maxKind, maxSegmentOf}
 use Rattle.qaft_laws.proofs.Rules.{lawful}
-use Rattle.qaft_read.proofs.Refusals.{Fit, read-badLevel, read-bufferTooSmall, read-badState, read-scan}
+use Rattle.qaft_read.proofs.Refusals.{Fit, read-badLevel, read-badKind, read-bufferTooSmall, read-badState, read-scan}
 use Rattle.qaft_read.proofs.Scanning.{commutes}
 use Rattle.qaft_read.specs.Read.{Call, outcomeOf, callOf, scanCall, refusal, reportOf, readScan}
 use Rattle.qaft_read.specs.State.{fresh, view, place, malformed}
@@ -32,19 +32,21 @@ use Rattle.qaft_rules.specs.Rules.{rules}
 use Rattle.qaft_report.specs.declared.Report.{Report}
 
 -- ---- what no call refuses, and framing's word for it
-pub fit-view : (r : Reader) (m : List ℕ) → Fit r m → framing.Fit (rules (r .level)) (view r) m
+pub fit-view : (r : Reader) (m : List ℕ) → Fit r m → framing.Fit (rules (r .level) (r .«check_kind»)) (view r) m
 unfolding malformed steps.malformed
 fit-view r m h = record { room = h .room; formed = h .formed }
 
-fit-place : (level : ℕ) → level ≤ maxLevel → (s : State ℕ) (m : List ℕ) → framing.Fit (rules level) s m → Fit (place level s) m
+fit-place : (level kind : ℕ) → level ≤ maxLevel → kind ≤ maxKind → (s : State ℕ) (m : List ℕ) → framing.Fit (rules level kind) s m → Fit (place level kind s) m
 unfolding malformed steps.malformed
-fit-place level l s m h = record { level = l; room = h .room; formed = h .formed }
+fit-place level kind l k s m h = record { level = l; kind = k; room = h .room; formed = h .formed }
 
 -- one octet keeps it
 pub action-keeps : (r : Reader) (x : ℕ) (m : List ℕ) → Fit r m → Keeps action Fit (action r x) m
 action-keeps r x m h =
     let l = r .level in
-    octet-keeps (place l) (step (rules l)) action (commutes l) (framing.Fit (rules l)) Fit (fit-place l (h .level)) (view r) x m (step-keeps (rules l) (lawful l) (view r) x m (fit-view r m h))
+    let k = r .«check_kind» in
+    octet-keeps (place l k) (step (rules l k)) action (commutes l k) (framing.Fit (rules l k)) Fit (fit-place l k (h .level) (h .kind)) (view r) x m
+    (step-keeps (rules l k) (lawful l k) (view r) x m (fit-view r m h))
 
 -- ---- a call as the generic caller sees it
 pub reportOf-outcomeOf : (o : Option Report) → reportOf (outcomeOf o) ≡ o
@@ -63,11 +65,12 @@ seen-scanCall r xs m =
 
 pub readScan-scan : (r : Reader) (xs m : List ℕ) → Fit r m → readScan r xs m ≡ scan action r xs m
 unfolding readScan
-readScan-scan r xs m h = ap seen (read-scan r xs m (h .level) (h .room) (h .formed)) ∙ seen-scanCall r xs m
+readScan-scan r xs m h = ap seen (read-scan r xs m (h .level) (h .kind) (h .room) (h .formed)) ∙ seen-scanCall r xs m
 
--- the same of a state that is placed at a level, for framing's theorems
-pub calls : (level : ℕ) → level ≤ maxLevel → (s : State ℕ) (xs m : List ℕ) → framing.Fit (rules level) s m → readScan (place level s) xs m ≡ scan action (place level s) xs m
-calls level l s xs m h = readScan-scan (place level s) xs m (fit-place level l s m h)
+-- the same of a state that is placed at a level with a kind of check, for framing's theorems
+pub calls : (level kind : ℕ) → level ≤ maxLevel → kind ≤ maxKind → (s : State ℕ) (xs m : List ℕ) → framing.Fit (rules level kind) s m
+    → readScan (place level kind s) xs m ≡ scan action (place level kind s) xs m
+calls level kind l k s xs m h = readScan-scan (place level kind s) xs m (fit-place level kind l k s m h)
 
 -- a refused call does nothing
 abbrev idle : Reader → List ℕ → Scan Reader Report
@@ -80,17 +83,19 @@ seen-refusal r m n = refl
 -- a reader and a buffer are fit, or every call on them is refused
 pub fit-or-refused : (r : Reader) (m : List ℕ) → Fit r m ⊎ ((xs : List ℕ) → readScan r xs m ≡ idle r m)
 unfolding readScan
-fit-or-refused r m = go (ltb maxLevel (r .level)) refl (ltb (length m) maxSegment) refl (malformed r) refl
+fit-or-refused r m = go (ltb maxLevel (r .level)) refl (ltb maxKind (r .«check_kind»)) refl (ltb (length m) (maxSegmentOf (r .«check_kind»))) refl (malformed r) refl
   where
-    go : (a : Bool) → ltb maxLevel (r .level) ≡ a → (b : Bool) → ltb (length m) maxSegment ≡ b → (c : Bool) → malformed r ≡ c
-        → Fit r m ⊎ ((xs : List ℕ) → readScan r xs m ≡ idle r m)
-    go true l b k c e = inr (λ xs. ap seen (read-badLevel r xs m (ltb-true _ _ l)) ∙ seen-refusal r m badLevel)
-    go false l true k c e = inr (λ xs. ap seen (read-bufferTooSmall r xs m (ltb-false _ _ l) (ltb-true _ _ k)) ∙ seen-refusal r m bufferTooSmall)
-    go false l false k true e = inr (λ xs. ap seen (read-badState r xs m (ltb-false _ _ l) (ltb-false _ _ k) e) ∙ seen-refusal r m badState)
-    go false l false k false e = inl (record { level = ltb-false _ _ l; room = ltb-false _ _ k; formed = e })
+    go : (a : Bool) → ltb maxLevel (r .level) ≡ a → (d : Bool) → ltb maxKind (r .«check_kind») ≡ d → (b : Bool) → ltb (length m) (maxSegmentOf (r .«check_kind»)) ≡ b
+        → (c : Bool) → malformed r ≡ c → Fit r m ⊎ ((xs : List ℕ) → readScan r xs m ≡ idle r m)
+    go true l d q b k c e = inr (λ xs. ap seen (read-badLevel r xs m (ltb-true _ _ l)) ∙ seen-refusal r m badLevel)
+    go false l true q b k c e = inr (λ xs. ap seen (read-badKind r xs m (ltb-false _ _ l) (ltb-true _ _ q)) ∙ seen-refusal r m badKind)
+    go false l false q true k c e = inr (λ xs. ap seen (read-bufferTooSmall r xs m (ltb-false _ _ l) (ltb-false _ _ q) (ltb-true _ _ k)) ∙ seen-refusal r m bufferTooSmall)
+    go false l false q false k true e = inr (λ xs. ap seen (read-badState r xs m (ltb-false _ _ l) (ltb-false _ _ q) (ltb-false _ _ k) e) ∙ seen-refusal r m badState)
+    go false l false q false k false e = inl (record { level = ltb-false _ _ l; kind = ltb-false _ _ q; room = ltb-false _ _ k; formed = e })
 
 -- ---- for consumers of reports: a fresh reader's trace of a line reports what the line reports
-pub trace-reports : (l : List ℕ) (level : ℕ) (m : List ℕ) → maxSegment ≤ length m → shownReports (rules level) (trace action (fresh level) l m .events) ≡ reportsOf (rules level) l
-trace-reports l level m room =
-    ap (λ (t : Trace Reader Report). shownReports (rules level) (t .events)) (trace-simulates (place level) (step (rules level)) action (commutes level) l (steps.fresh (rules level)) m)
-    ∙ meaning.trace-reports (rules level) (lawful level) l m room
+pub trace-reports : (l : List ℕ) (level kind : ℕ) (m : List ℕ) → maxSegmentOf kind ≤ length m
+    → shownReports (rules level kind) (trace action (fresh level kind) l m .events) ≡ reportsOf (rules level kind) l
+trace-reports l level kind m room =
+    let placed = trace-simulates (place level kind) (step (rules level kind)) action (commutes level kind) l (steps.fresh (rules level kind)) m in
+    ap (λ (t : Trace Reader Report). shownReports (rules level kind) (t .events)) placed ∙ meaning.trace-reports (rules level kind) (lawful level kind) l m room

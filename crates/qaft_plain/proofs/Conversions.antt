@@ -20,7 +20,7 @@ use Rattle.truths.proofs.Truths.{truth-bit}
 -- the numbers of a state say that state
 pub reader-plain : (r : Reader) → readerOf (plainOf r) ≡ r
 reader-plain r i =
-    record { level = r .level; synced = truth-bit (r .synced) i; pending = truth-bit (r .pending) i; count = r .count; sum = r .sum; «bad_pair» = truth-bit (r .«bad_pair») i }
+    record { level = r .level; «check_kind» = r .«check_kind»; synced = truth-bit (r .synced) i; pending = truth-bit (r .pending) i; count = r .count; check = r .check; «bad_pair» = truth-bit (r .«bad_pair») i }
 
 -- an answer put together in plain numbers
 pub answer-parts : (c : PlainReader) (a b : Answer) (n k : ℕ) (l : PlainReader)

@@ -19,10 +19,12 @@ use Rattle.truths.specs.Truths.{truth, bit}
 
 -- any number but 0 stands for true, and true is given back as 1
 abbrev pub readerOf : PlainReader → Reader
-readerOf c = record { level = c .level; synced = truth (c .synced); pending = truth (c .pending); count = c .count; sum = c .sum; «bad_pair» = truth (c .«bad_pair») }
+readerOf c =
+    record { level = c .level; «check_kind» = c .«check_kind»; synced = truth (c .synced); pending = truth (c .pending); count = c .count; check = c .check; «bad_pair» = truth (c .«bad_pair») }
 
 abbrev pub plainOf : Reader → PlainReader
-plainOf r = record { level = r .level; synced = bit (r .synced); pending = bit (r .pending); count = r .count; sum = r .sum; «bad_pair» = bit (r .«bad_pair») }
+plainOf r =
+    record { level = r .level; «check_kind» = r .«check_kind»; synced = bit (r .synced); pending = bit (r .pending); count = r .count; check = r .check; «bad_pair» = bit (r .«bad_pair») }
 
 -- the state for the next call; after a refusal "returned as it came", so the very numbers
 abbrev pub later : PlainReader → Outcome → Reader → PlainReader

@@ -11,10 +11,11 @@ use qaft_report::Outcome;
 #[repr(C)]
 pub struct PlainReader {
     pub level: u8,
+    pub check_kind: u8,
     pub synced: u8,
     pub pending: u8,
     pub count: usize,
-    pub sum: u8,
+    pub check: u16,
     pub bad_pair: u8,
 }
 
@@ -29,10 +30,10 @@ pub struct PlainAnswer {
 
 impl PlainReader {
     // The state before any flag.
-    pub fn fresh(level: u8) -> Self
-        ensures { λ r. ⌜ r ≡ plainOf (fresh level) ⌝ }
+    pub fn fresh(level: u8, check_kind: u8) -> Self
+        ensures { λ r. ⌜ r ≡ plainOf (fresh level «check_kind») ⌝ }
     {
-        plain(Reader::fresh(level))
+        plain(Reader::fresh(level, check_kind))
     }
 
     // Reads a chunk up to its first report.
@@ -57,10 +58,11 @@ impl PlainReader {
     {
         Reader {
             level: self.level,
+            check_kind: self.check_kind,
             synced: truths::truth(self.synced),
             pending: truths::truth(self.pending),
             count: self.count,
-            sum: self.sum,
+            check: self.check,
             bad_pair: truths::truth(self.bad_pair),
         }
     }
@@ -83,10 +85,11 @@ fn plain(r: Reader) -> PlainReader
 {
     PlainReader {
         level: r.level,
+        check_kind: r.check_kind,
         synced: truths::bit(r.synced),
         pending: truths::bit(r.pending),
         count: r.count,
-        sum: r.sum,
+        check: r.check,
         bad_pair: truths::bit(r.bad_pair),
     }
 }

@@ -1,12 +1,11 @@
 -- A call of the reader is the shared loop's, judged: over plain variables, for the returns of `scan`. Assumes nothing.
-use Prim.Native.Nat.{ℕ, _≤_, _<_}
+use Prim.Native.Nat.{ℕ, _≤_}
 use mathlib.Core.Bool.{Bool, true, false}
 use mathlib.Core.List.{List}
 use mathlib.Core.Path.{_≡_, refl, sym, ap, _∙_}
 use native.Mathlib.Omega.{arith}
 use lib.ListN.{length}
-use Rattle.common.proofs.Each.{each-all}
-use Rattle.deframer.proofs.Judged.{judged, scan-judged, check-kept}
+use Rattle.deframer.proofs.Judged.{judged, scan-judged}
 use Rattle.deframer.specs.Scan.{scanned}
 use Rattle.deframer.specs.Scan as deframer
 use Rattle.deframer.specs.declared.Scanned.{Scanned}
@@ -16,8 +15,8 @@ use Rattle.framing.specs.Rules.{State}
 use Rattle.framing.specs.Step.{step}
 use Rattle.line.specs.Scan.{advance, store, emit, Scan, scan}
 use Rattle.line.specs.Simulation.{placeAction}
-use Rattle.qaft.specs.Limits.{maxSegment}
-use Rattle.qaft_read.proofs.SharedRule.{sum-added, rule-rules}
+use Rattle.qaft.specs.Limits.{maxSegmentOf}
+use Rattle.qaft_read.proofs.SharedRule.{rule-rules}
 use Rattle.qaft_read.specs.Read.{outcomeOf, callOf, scanCall}
 use Rattle.qaft_read.specs.Scanned.{rule, stateOf, readerAt, verdictOf}
 use Rattle.qaft_read.specs.State.{place}
@@ -30,49 +29,49 @@ use Rattle.qaft_report.specs.declared.Report.{Report}
 use Rattle.qaft_rules.specs.Rules.{rules}
 
 -- the reader's step is framing's
-pub commutes : (level : ℕ) (s : State ℕ) (x : ℕ) → action (place level s) x ≡ placeAction (place level) (step (rules level) s x)
+pub commutes : (level kind : ℕ) (s : State ℕ) (x : ℕ) → action (place level kind s) x ≡ placeAction (place level kind) (step (rules level kind) s x)
 unfolding action step
-commutes level s x = sym (stepInto-map (rules level) (λ t. advance t) (λ t i y. store t i y) (λ p t. emit p t) (placeAction (place level)) s x)
+commutes level kind s x = sym (stepInto-map (rules level kind) (λ t. advance t) (λ t i y. store t i y) (λ p t. emit p t) (placeAction (place level kind)) s x)
 
 -- ---- a call: u and m′ are what the loop gave back, and the buffer after it
-module _ (r : Reader) (xs m : List ℕ) (room : maxSegment ≤ length m) (u : Scanned) (m′ : List ℕ)
-    (e : u ≡ scanned (rule (r .level)) (stateOf r) xs m .answer) (f : m′ ≡ scanned (rule (r .level)) (stateOf r) xs m .buffer) where
-  judged-is : scan action r xs m ≡ judged (rule (r .level)) (stateOf r) xs m room u m′ e f (rules (r .level)) (rule-rules (r .level)) (place (r .level)) action (commutes (r .level)) u m′
-  judged-is = scan-judged (rule (r .level)) (stateOf r) xs m room u m′ e f (rules (r .level)) (rule-rules (r .level)) (place (r .level)) action (commutes (r .level))
+module _ (r : Reader) (xs m : List ℕ) (room : maxSegmentOf (r .«check_kind») ≤ length m) (u : Scanned) (m′ : List ℕ)
+    (e : u ≡ scanned (rule (r .level) (r .«check_kind»)) (stateOf r) xs m .answer) (f : m′ ≡ scanned (rule (r .level) (r .«check_kind»)) (stateOf r) xs m .buffer) where
+  abbrev l : ℕ
+  l = r .level
+
+  abbrev k : ℕ
+  k = r .«check_kind»
+
+  judged-is : scan action r xs m ≡ judged (rule l k) (stateOf r) xs m room u m′ e f (rules l k) (rule-rules l k) (place l k) action (commutes l k) u m′
+  judged-is = scan-judged (rule l k) (stateOf r) xs m room u m′ e f (rules l k) (rule-rules l k) (place l k) action (commutes l k)
 
   pub buffer-is : m′ ≡ scanCall r xs m .buffer
   unfolding scanCall callOf
   buffer-is = sym (ap (λ (v : Scan Reader Report). v .buffer) judged-is)
 
   -- no segment was closed
-  open-not-closed : verdictOf (u .closed) (u .state) ≡ Open → u .closed ≡ false
+  open-not-closed : verdictOf k (u .closed) (u .state) ≡ Open → u .closed ≡ false
   unfolding verdictOf
   open-not-closed v = by (u .closed) v
     where
-      by : (b : Bool) → verdictOf b (u .state) ≡ Open → b ≡ false
+      by : (b : Bool) → verdictOf k b (u .state) ≡ Open → b ≡ false
       by true v = cc
       by false v = refl
 
-  -- the check of the state that is given back for the next call is a sum modulo 256
-  pub sum-small : r .sum < 256 → verdictOf (u .closed) (u .state) ≡ Open → u .state .check < 256
-  sum-small h v =
-      check-kept (rule (r .level)) (stateOf r) xs m room u m′ e f (λ (a : ℕ). a < 256) (λ _. Unit {0}) (omega arith) (λ _ _. tt) (λ n a x _ _. omega (arith, sum-added n a x))
-      (each-all (λ _. Unit {0}) (λ _. tt) xs) h (open-not-closed v)
-
-  pub scan-open : verdictOf (u .closed) (u .state) ≡ Open → record { outcome = UsedUp; taken = u .taken; reader = readerAt (r .level) (u .state) } ≡ scanCall r xs m .answer
+  pub scan-open : verdictOf k (u .closed) (u .state) ≡ Open → record { outcome = UsedUp; taken = u .taken; reader = readerAt l k (u .state) } ≡ scanCall r xs m .answer
   unfolding scanCall callOf outcomeOf
   scan-open v = sym (ap (λ (v : Scan Reader Report). callOf v .answer) judged-is ∙ rw (open-not-closed v))
 
   -- one was, and its verdict is p
-  closed-verdict : (p : Report) → verdictOf (u .closed) (u .state) ≡ Closed p → (u .closed ≡ true) × (verdictOn (rules (r .level)) (deframer.view (u .state)) ≡ p)
+  closed-verdict : (p : Report) → verdictOf k (u .closed) (u .state) ≡ Closed p → (u .closed ≡ true) × (verdictOn (rules l k) (deframer.view (u .state)) ≡ p)
   unfolding verdictOf
   closed-verdict p v = by (u .closed) v
     where
-      by : (b : Bool) → verdictOf b (u .state) ≡ Closed p → (b ≡ true) × (verdictOn (rules (r .level)) (deframer.view (u .state)) ≡ p)
+      by : (b : Bool) → verdictOf k b (u .state) ≡ Closed p → (b ≡ true) × (verdictOn (rules l k) (deframer.view (u .state)) ≡ p)
       by true v = (refl, cc)
       by false v = let z : _≡_ {A = ℕ} 0 1 = cc in absurd (omega arith)
 
-  pub scan-closed : (p : Report) → verdictOf (u .closed) (u .state) ≡ Closed p
+  pub scan-closed : (p : Report) → verdictOf k (u .closed) (u .state) ≡ Closed p
       → record { outcome = Reported p; taken = u .taken; reader = state.opened r } ≡ scanCall r xs m .answer
   unfolding scanCall callOf outcomeOf
   scan-closed p v =

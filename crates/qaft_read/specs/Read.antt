@@ -6,8 +6,8 @@ use lib.Dec.{ltb}
 use lib.ListN.{length}
 use Rattle.common.specs.Refusals.{Refusal, guarded}
 use Rattle.line.specs.Scan.{Scan, scan}
-use Rattle.qaft.specs.Answers.{bufferTooSmall, badState, badLevel}
-use Rattle.qaft.specs.Limits.{maxLevel, maxSegment}
+use Rattle.qaft.specs.Answers.{bufferTooSmall, badState, badLevel, badKind}
+use Rattle.qaft.specs.Limits.{maxLevel, maxKind, maxSegmentOf}
 use Rattle.qaft_read.specs.State.{malformed}
 use Rattle.qaft_read.specs.Step.{action}
 use Rattle.qaft_read.specs.declared.Answer.{Answer}
@@ -36,11 +36,13 @@ scanCall r xs m = callOf (scan action r xs m)
 unfoldable pub refusal : Reader → (m : List ℕ) (n : ℕ) → Call
 refusal r m n = record { answer = record { outcome = Refused n; taken = 0; reader = r }; buffer = m }
 
--- the reader's refusals, "order 6, 4, 5"; room is the length of the buffer
+-- the reader's refusals, "order 6, 4, 5", and "7 check kind not 0 or 1, judged after 6" (2026-07); "the store is 2,562 octets" with the check sequence; room
+-- is the length of the buffer
 unfoldable pub refusals : Reader → (room : ℕ) → List Refusal
 refusals r room =
     (ltb maxLevel (r .level), badLevel)
-    ∷ (ltb room maxSegment, bufferTooSmall)
+    ∷ (ltb maxKind (r .«check_kind»), badKind)
+    ∷ (ltb room (maxSegmentOf (r .«check_kind»)), bufferTooSmall)
     ∷ (malformed r, badState)
     ∷ []
 

@@ -7,8 +7,9 @@ use Rattle.qaft_read.specs.declared.Reader.{Reader}
 use Rattle.qaft_rules.specs.Rules.{rules}
 use Rattle.qaft_report.specs.declared.Report.{Report}
 
--- one octet, as an action of the generic reader of the crate line; the level stays
+-- one octet, as an action of the generic reader of the crate line; level and kind stay
 unfoldable pub action : Reader → (x : ℕ) → Action Reader Report
 action r x =
     let l = r .level in
-    stepInto (rules l) (λ s. advance (place l s)) (λ s i y. store (place l s) i y) (λ p s. emit p (place l s)) (view r) x
+    let k = r .«check_kind» in
+    stepInto (rules l k) (λ s. advance (place l k s)) (λ s i y. store (place l k s) i y) (λ p s. emit p (place l k s)) (view r) x

@@ -3,12 +3,13 @@
 // what the reader hands over and how it judges what comes back: specs/Scanned.
 ghost use mathlib.Core.Path.{_≡_};
 ghost use mathlib.Core.Bool.{not};
-ghost use Prim.Native.Nat.{_<_, _≤_};
+ghost use Prim.Native.Nat.{_≤_};
 ghost use lib.ListN.{length};
-ghost use Rattle.qaft.specs.Limits.{maxSegment};
+ghost use Rattle.qaft.specs.Check.{checkBy};
+ghost use Rattle.qaft.specs.Limits.{maxSegmentOf};
 ghost use Rattle.qaft_rules.specs.Rules.{verdict};
 ghost use Rattle.qaft_read.specs.State.{fresh, opened, malformed};
-ghost use Rattle.qaft_read.specs.Scanned.{rule, stateOf, readerAt, verdictOf};
+ghost use Rattle.qaft_read.specs.Scanned.{runningCheck, rule, stateOf, readerAt, verdictOf};
 ghost use Rattle.qaft_read.specs.Read.{scanCall, read};
 use deframer::Rule;
 use deframer::State;
@@ -18,10 +19,11 @@ use qaft_report::Report;
 #[repr(C)]
 pub struct Reader {
     pub level: u8,
+    pub check_kind: u8,
     pub synced: bool,
     pub pending: bool,
     pub count: usize,
-    pub sum: u8,
+    pub check: u16,
     pub bad_pair: bool,
 }
 
@@ -40,15 +42,16 @@ pub struct Answer {
 
 impl Reader {
     // The state before any flag.
-    pub fn fresh(level: u8) -> Self
-        ensures { λ r. ⌜ r ≡ fresh level ⌝ }
+    pub fn fresh(level: u8, check_kind: u8) -> Self
+        ensures { λ r. ⌜ r ≡ fresh level «check_kind» ⌝ }
     {
         Self {
             level,
+            check_kind,
             synced: false,
             pending: false,
             count: 0,
-            sum: 0,
+            check: blank(check_kind),
             bad_pair: false,
         }
     }
@@ -62,7 +65,10 @@ impl Reader {
         if qaft::MAX_LEVEL < self.level {
             return self.refused(qaft::BAD_LEVEL);
         }
-        if buffer.len() < qaft::MAX_SEGMENT {
+        if qaft::MAX_KIND < self.check_kind {
+            return self.refused(qaft::BAD_KIND);
+        }
+        if buffer.len() < qaft::max_segment(self.check_kind) {
             return self.refused(qaft::BUFFER_TOO_SMALL);
         }
         if self.well_formed() {
@@ -85,18 +91,19 @@ impl Reader {
     fn well_formed(self) -> bool
         ensures { λ r. ⌜ r ≡ not (malformed self) ⌝ }
     {
-        rule(self.level).well_formed(self.state())
+        rule(self.level, self.check_kind).well_formed(self.state())
     }
 
     // The chunk's octets up to the first report.
     fn scan(self, chunk: &[u8], buffer: &mut [u8]) -> Answer
-        requires { ⌜ maxSegment ≤ length (now buffer) ⌝ }
+        requires { ⌜ maxSegmentOf (self .«check_kind») ≤ length (now buffer) ⌝ }
         ensures { λ r. ⌜ r ≡ scanCall self (now (chunk .entry)) (now (buffer .entry)) .answer ⌝ }
         ensures { λ _. ⌜ now (buffer .exit) ≡ scanCall self (now (chunk .entry)) (now (buffer .entry)) .buffer ⌝ }
     {
-        let scanned = deframer::scan(rule(self.level), self.state(), chunk, buffer);
+        let r = rule(self.level, self.check_kind);
+        let scanned = deframer::scan(r, self.state(), chunk, buffer);
         let s = scanned.state;
-        let Verdict::Closed(report) = judge(scanned.closed, s) else {
+        let Verdict::Closed(report) = judge(self.check_kind, scanned.closed, s) else {
             return Answer {
                 outcome: Outcome::UsedUp,
                 taken: scanned.taken,
@@ -110,7 +117,7 @@ impl Reader {
         }
     }
 
-    // The state as the deframer has it, which knows no level.
+    // The state as the deframer has it, which knows no level and no kind of check.
     fn state(self) -> State
         ensures { λ r. ⌜ r ≡ stateOf self ⌝ }
     {
@@ -119,21 +126,21 @@ impl Reader {
             pending: self.pending,
             bad: self.bad_pair,
             count: self.count,
-            check: self.sum as u16,
+            check: self.check,
         }
     }
 
-    // A state of the deframer at the reader's level. Its check is a sum modulo 256.
+    // A state of the deframer at the reader's level, with its kind of check.
     fn at(self, s: State) -> Reader
-        requires { ⌜ s .check < 256 ⌝ }
-        ensures { λ r. ⌜ r ≡ readerAt (self .level) s ⌝ }
+        ensures { λ r. ⌜ r ≡ readerAt (self .level) (self .«check_kind») s ⌝ }
     {
         Reader {
             level: self.level,
+            check_kind: self.check_kind,
             synced: s.synced,
             pending: s.pending,
             count: s.count,
-            sum: s.check as u8,
+            check: s.check,
             bad_pair: s.bad,
         }
     }
@@ -144,42 +151,73 @@ impl Reader {
     {
         Reader {
             level: self.level,
+            check_kind: self.check_kind,
             synced: true,
             pending: false,
             count: 0,
-            sum: 0,
+            check: blank(self.check_kind),
             bad_pair: false,
         }
     }
 }
 
-// How the deframer is to read at a level: raw octets that the level escapes are its flag, its escape, and flow control, which is
-// skipped; a pair that stands for no such octet is bad.
-pub fn rule(level: u8) -> Rule
-    ensures { λ r. ⌜ r ≡ rule level ⌝ }
+// How the deframer is to read at a level, with the check of a kind: raw octets that the level escapes are its flag, its escape, and
+// flow control, which is skipped; a pair that stands for no such octet is bad.
+pub fn rule(level: u8, check_kind: u8) -> Rule
+    ensures { λ r. ⌜ r ≡ rule level «check_kind» ⌝ }
 {
     Rule {
         escapes: qaft::escapes(level),
         mask: qaft::MASK,
         strict: true,
-        cap: qaft::MAX_SEGMENT as u16,
-        check: deframer::SUM,
+        cap: qaft::max_segment(check_kind) as u16,
+        check: running_check(check_kind),
     }
 }
 
+// The deframer's word for a kind of check.
+fn running_check(kind: u8) -> u8
+    ensures { λ r. ⌜ r ≡ runningCheck kind ⌝ }
+{
+    if kind == qaft::FCS {
+        return deframer::REGISTER;
+    }
+    deframer::SUM
+}
+
+// The running check before any octet.
+fn blank(kind: u8) -> u16
+    ensures { λ r. ⌜ r ≡ checkBy kind .blank ⌝ }
+{
+    if kind == qaft::FCS {
+        return fcs::PRESET;
+    }
+    0
+}
+
+// The running check after data and their check.
+fn good(kind: u8) -> u16
+    ensures { λ r. ⌜ r ≡ checkBy kind .good ⌝ }
+{
+    if kind == qaft::FCS {
+        return fcs::RESIDUE;
+    }
+    0
+}
+
 // The verdict on the segment in which a call ended.
-fn judge(closed: bool, s: State) -> Verdict
-    ensures { λ r. ⌜ r ≡ verdictOf closed s ⌝ }
+fn judge(kind: u8, closed: bool, s: State) -> Verdict
+    ensures { λ r. ⌜ r ≡ verdictOf kind closed s ⌝ }
 {
     if closed {
-        return Verdict::Closed(report_on(s));
+        return Verdict::Closed(report_on(kind, s));
     }
     Verdict::Open
 }
 
 // What a closed segment is reported as, by the state in which the flag found it; first that applies.
-pub fn report_on(s: State) -> Report
-    ensures { λ r. ⌜ r ≡ verdict (s .pending) (s .bad) (s .count) (s .check) ⌝ }
+pub fn report_on(check_kind: u8, s: State) -> Report
+    ensures { λ r. ⌜ r ≡ verdict «check_kind» (s .pending) (s .bad) (s .count) (s .check) ⌝ }
 {
     if s.pending {
         return Report::Aborted;
@@ -188,14 +226,15 @@ pub fn report_on(s: State) -> Report
         return Report::BadPair;
     }
     let n = s.count;
-    if qaft::MAX_SEGMENT < n {
+    let size = qaft::check_size(check_kind);
+    if qaft::MAX_DATA + size < n {
         return Report::Long;
     }
-    if n < qaft::MIN_SEGMENT {
+    if n < 1 + size {
         return Report::Short;
     }
-    if s.check != 0 {
+    if s.check != good(check_kind) {
         return Report::BadCheck;
     }
-    Report::Frame(n - 1)
+    Report::Frame(n - size)
 }

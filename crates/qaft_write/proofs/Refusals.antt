@@ -1,7 +1,7 @@
 -- The frame writer's cases: each refusal, and the frame written; what is known of a call that is answered with 0. Assumes nothing.
 use Prim.Native.Nat.{ℕ, _≤_, _<_}
 use mathlib.Core.Bool.{Bool}
-use mathlib.Core.List.{List, [], _∷_}
+use mathlib.Core.List.{List, []}
 use mathlib.Core.Path.{_≡_, refl, ap, ap₂, _∙_}
 use native.Mathlib.Omega.{arith}
 use borrow.Author.Tests.{lt-ltb, le-ltb, eq-eqb, ne-eqb, ltb-false, eqb-false}
@@ -12,86 +12,95 @@ use Rattle.framer.proofs.Written.{frame-some}
 use Rattle.framer.specs.Write.{framed, writtenLength, writtenInto}
 use Rattle.qaft.proofs.Escape.{frame-escapesOf}
 use Rattle.qaft.proofs.Frame.{frame-fits}
-use Rattle.qaft.specs.Answers.{done, noData, dataTooLong, outTooSmall, badLevel}
-use Rattle.qaft.specs.Check.{checkOctet}
+use Rattle.qaft.specs.Answers.{done, noData, dataTooLong, outTooSmall, badLevel, badKind}
+use Rattle.qaft.specs.Check.{checkBy}
 use Rattle.qaft.specs.Escape.{writing, escapesOf}
 use Rattle.qaft.specs.Frame.{sealed, frame}
-use Rattle.qaft.specs.Limits.{maxLevel, maxData, maxFrame}
+use Rattle.qaft.specs.Limits.{maxLevel, maxKind, maxData, maxFrameOf}
 use Rattle.qaft_write.proofs.Answer.{answered-unfit, answered-fit}
 use Rattle.qaft_write.proofs.Sending.{Wrote}
 use Rattle.qaft_write.specs.Answer.{Outcome, refusal, wrote}
 use Rattle.qaft_write.specs.Write.{refusals, writeFrame}
 use Rattle.qaft_write.specs.declared.Written.{Written}
 
-module _ (level : ℕ) (atFlag : Bool) (d out : List ℕ) where
-  pub write-badLevel : maxLevel < level → writeFrame level atFlag d out ≡ refusal out badLevel
+module _ (level kind : ℕ) (atFlag : Bool) (d out : List ℕ) where
+  pub write-badLevel : maxLevel < level → writeFrame level kind atFlag d out ≡ refusal out badLevel
   unfolding writeFrame refusals
   write-badLevel h = simp (lt-ltb _ _ h)
 
   module _ (h : level ≤ maxLevel) where
-    pub write-noData : length d ≡ 0 → writeFrame level atFlag d out ≡ refusal out noData
+    pub write-badKind : maxKind < kind → writeFrame level kind atFlag d out ≡ refusal out badKind
     unfolding writeFrame refusals
-    write-noData e = simp (le-ltb _ _ h, eq-eqb _ _ e)
+    write-badKind k = simp (le-ltb _ _ h, lt-ltb _ _ k)
 
-    module _ (some : length d ≡ 0 → ⊥) where
-      pub write-dataTooLong : maxData < length d → writeFrame level atFlag d out ≡ refusal out dataTooLong
+    module _ (q : kind ≤ maxKind) where
+      pub write-noData : length d ≡ 0 → writeFrame level kind atFlag d out ≡ refusal out noData
       unfolding writeFrame refusals
-      write-dataTooLong k = simp (le-ltb _ _ h, ne-eqb _ _ some, lt-ltb _ _ k)
+      write-noData e = simp (le-ltb _ _ h, le-ltb _ _ q, eq-eqb _ _ e)
 
-      module _ (k : length d ≤ maxData) where
-        pub write-outTooSmall : length out < length (frame level atFlag d) → writeFrame level atFlag d out ≡ refusal out outTooSmall
+      module _ (some : length d ≡ 0 → ⊥) where
+        pub write-dataTooLong : maxData < length d → writeFrame level kind atFlag d out ≡ refusal out dataTooLong
         unfolding writeFrame refusals
-        write-outTooSmall r = simp (le-ltb _ _ h, ne-eqb _ _ some, le-ltb _ _ k, lt-ltb _ _ r)
+        write-dataTooLong k = simp (le-ltb _ _ h, le-ltb _ _ q, ne-eqb _ _ some, lt-ltb _ _ k)
 
-        pub write-done : length (frame level atFlag d) ≤ length out → writeFrame level atFlag d out ≡ wrote out (frame level atFlag d)
-        unfolding writeFrame refusals
-        write-done r = simp (le-ltb _ _ h, ne-eqb _ _ some, le-ltb _ _ k, le-ltb _ _ r)
+        module _ (k : length d ≤ maxData) where
+          pub write-outTooSmall : length out < length (frame level kind atFlag d) → writeFrame level kind atFlag d out ≡ refusal out outTooSmall
+          unfolding writeFrame refusals
+          write-outTooSmall r = simp (le-ltb _ _ h, le-ltb _ _ q, ne-eqb _ _ some, le-ltb _ _ k, lt-ltb _ _ r)
 
-        -- as the code goes: by the escapes e and the check octet c, which it calculated; n and m: the frame writer's answer, and the buffer after it
-        module _ (e : Escapes) (ee : e ≡ escapesOf level) (c : ℕ) (ce : c ≡ checkOctet d) (n : ℕ) (m : List ℕ)
-            (ne : n ≡ writtenLength (framed e atFlag [] d (c ∷ [])) out) (me : m ≡ writtenInto (framed e atFlag [] d (c ∷ [])) out) where
-          same : framed e atFlag [] d (c ∷ []) ≡ frame level atFlag d
-          unfolding frame
-          same = ap₂ (λ (e : Escapes) (c : ℕ). framed e atFlag [] d (c ∷ [])) ee ce ∙ frame-escapesOf level atFlag (sealed d)
+          pub write-done : length (frame level kind atFlag d) ≤ length out → writeFrame level kind atFlag d out ≡ wrote out (frame level kind atFlag d)
+          unfolding writeFrame refusals
+          write-done r = simp (le-ltb _ _ h, le-ltb _ _ q, ne-eqb _ _ some, le-ltb _ _ k, le-ltb _ _ r)
 
-          nonempty : 0 < length (frame level atFlag d)
-          unfolding frame
-          nonempty = frame-some (writing level) atFlag (sealed d)
+          -- as the code goes: by the escapes e and the check octets c, which it calculated; n and m: the frame writer's answer, and the buffer after it
+          module _ (e : Escapes) (ee : e ≡ escapesOf level) (c : List ℕ) (ce : c ≡ checkBy kind .octets d) (n : ℕ) (m : List ℕ)
+              (ne : n ≡ writtenLength (framed e atFlag [] d c) out) (me : m ≡ writtenInto (framed e atFlag [] d c) out) where
+            same : framed e atFlag [] d c ≡ frame level kind atFlag d
+            unfolding frame
+            same = ap₂ (λ (e : Escapes) (c : List ℕ). framed e atFlag [] d c) ee ce ∙ frame-escapesOf level atFlag (sealed kind d)
 
-          answer : n ≡ writtenLength (frame level atFlag d) out
-          answer = ne ∙ ap (λ (ys : List ℕ). writtenLength ys out) same
+            nonempty : 0 < length (frame level kind atFlag d)
+            unfolding frame
+            nonempty = frame-some (writing level) atFlag (sealed kind d)
 
-          buffer : m ≡ writtenInto (frame level atFlag d) out
-          buffer = me ∙ ap (λ (ys : List ℕ). writtenInto ys out) same
+            answer : n ≡ writtenLength (frame level kind atFlag d) out
+            answer = ne ∙ ap (λ (ys : List ℕ). writtenLength ys out) same
 
-          pub write-unfit : n ≡ 0 → (_≡_ {A = Written} (record { number = outTooSmall; length = 0 }) (writeFrame level atFlag d out .answer)) × (m ≡ writeFrame level atFlag d out .buffer)
-          write-unfit = answered-unfit (frame level atFlag d) out nonempty n m answer buffer (writeFrame level atFlag d out) outTooSmall write-outTooSmall
+            buffer : m ≡ writtenInto (frame level kind atFlag d) out
+            buffer = me ∙ ap (λ (ys : List ℕ). writtenInto ys out) same
 
-          pub write-fit : (n ≡ 0 → ⊥) → (_≡_ {A = Written} (record { number = done; length = n }) (writeFrame level atFlag d out .answer)) × (m ≡ writeFrame level atFlag d out .buffer)
-          write-fit = answered-fit (frame level atFlag d) out nonempty n m answer buffer (writeFrame level atFlag d out) write-done
+            pub write-unfit : n ≡ 0 → (_≡_ {A = Written} (record { number = outTooSmall; length = 0 }) (writeFrame level kind atFlag d out .answer)) × (m ≡ writeFrame level kind atFlag d out .buffer)
+            write-unfit = answered-unfit (frame level kind atFlag d) out nonempty n m answer buffer (writeFrame level kind atFlag d out) outTooSmall write-outTooSmall
 
--- a frame of 1 to 2,560 octets is written into any buffer of 5,124
-pub write-written : (level : ℕ) → level ≤ maxLevel → (atFlag : Bool) (d m : List ℕ) → 1 ≤ length d → length d ≤ maxData → maxFrame ≤ length m
-    → writeFrame level atFlag d m ≡ wrote m (frame level atFlag d)
-write-written level h atFlag d m some most room =
-    let fits = frame-fits level atFlag d most in
-    write-done level atFlag d m h (λ e. omega (arith, e)) most (omega arith)
+            pub write-fit : (n ≡ 0 → ⊥) → (_≡_ {A = Written} (record { number = done; length = n }) (writeFrame level kind atFlag d out .answer)) × (m ≡ writeFrame level kind atFlag d out .buffer)
+            write-fit = answered-fit (frame level kind atFlag d) out nonempty n m answer buffer (writeFrame level kind atFlag d out) write-done
 
--- a call that is answered with 0 passed every test: its level is 0 or 1, and it wrote its frame, which has 1 to 2,560 octets
-done-passed : (level : ℕ) (atFlag : Bool) (d m : List ℕ) → writeFrame level atFlag d m .answer .number ≡ done → Passed (refusals level atFlag d (length m))
+-- a frame of 1 to 2,560 octets is written into any buffer of 5,124, with the longer check 5,126
+pub write-written : (level kind : ℕ) → level ≤ maxLevel → kind ≤ maxKind → (atFlag : Bool) (d m : List ℕ) → 1 ≤ length d → length d ≤ maxData → maxFrameOf kind ≤ length m
+    → writeFrame level kind atFlag d m ≡ wrote m (frame level kind atFlag d)
+write-written level kind h q atFlag d m some most room =
+    let fits = frame-fits level kind atFlag d most in
+    write-done level kind atFlag d m h q (λ e. omega (arith, e)) most (omega arith)
+
+-- a call that is answered with 0 passed every test: its level and check kind are 0 or 1, and it wrote its frame, which has 1 to 2,560 octets
+done-passed : (level kind : ℕ) (atFlag : Bool) (d m : List ℕ) → writeFrame level kind atFlag d m .answer .number ≡ done → Passed (refusals level kind atFlag d (length m))
 unfolding writeFrame refusals refusal
-done-passed level atFlag d m z =
-    guarded-passed (refusal m) (wrote m (frame level atFlag d)) (λ (o : Outcome). o .answer .number) done (λ n. refl) (refusals level atFlag d (length m))
-    (λ e. omega (arith, e), (λ e. omega (arith, e), (λ e. omega (arith, e), (λ e. omega (arith, e), tt)))) z
+done-passed level kind atFlag d m z =
+    guarded-passed (refusal m) (wrote m (frame level kind atFlag d)) (λ (o : Outcome). o .answer .number) done (λ n. refl) (refusals level kind atFlag d (length m))
+    (λ e. omega (arith, e), (λ e. omega (arith, e), (λ e. omega (arith, e), (λ e. omega (arith, e), (λ e. omega (arith, e), tt))))) z
 
-pub done-level : (level : ℕ) (atFlag : Bool) (d m : List ℕ) → writeFrame level atFlag d m .answer .number ≡ done → level ≤ maxLevel
+pub done-level : (level kind : ℕ) (atFlag : Bool) (d m : List ℕ) → writeFrame level kind atFlag d m .answer .number ≡ done → level ≤ maxLevel
 unfolding refusals
-done-level level atFlag d m z = ltb-false _ _ (done-passed level atFlag d m z .0)
+done-level level kind atFlag d m z = ltb-false _ _ (done-passed level kind atFlag d m z .0)
 
-pub done-wrote : (level : ℕ) (atFlag : Bool) (d m : List ℕ) → writeFrame level atFlag d m .answer .number ≡ done → Wrote (writeFrame level) (writing level) sealed atFlag d m
+pub done-kind : (level kind : ℕ) (atFlag : Bool) (d m : List ℕ) → writeFrame level kind atFlag d m .answer .number ≡ done → kind ≤ maxKind
+unfolding refusals
+done-kind level kind atFlag d m z = ltb-false _ _ (done-passed level kind atFlag d m z .1 .0)
+
+pub done-wrote : (level kind : ℕ) (atFlag : Bool) (d m : List ℕ) → writeFrame level kind atFlag d m .answer .number ≡ done → Wrote (writeFrame level kind) (writing level) (sealed kind) atFlag d m
 unfolding refusals frame
-done-wrote level atFlag d m z =
-    let p = done-passed level atFlag d m z in
-    let some = eqb-false (length d) 0 (p .1 .0) in
-    let most : length d ≤ maxData = ltb-false _ _ (p .1 .1 .0) in
-    record { some = omega (arith, some); most = most; written = write-done level atFlag d m (ltb-false _ _ (p .0)) some most (ltb-false _ _ (p .1 .1 .1 .0)) }
+done-wrote level kind atFlag d m z =
+    let p = done-passed level kind atFlag d m z in
+    let some = eqb-false (length d) 0 (p .1 .1 .0) in
+    let most : length d ≤ maxData = ltb-false _ _ (p .1 .1 .1 .0) in
+    record { some = omega (arith, some); most = most; written = write-done level kind atFlag d m (ltb-false _ _ (p .0)) (ltb-false _ _ (p .1 .0)) some most (ltb-false _ _ (p .1 .1 .1 .1 .0)) }

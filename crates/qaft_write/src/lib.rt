@@ -15,13 +15,17 @@ fn refused(number: u8) -> Written
     Written { number, length: 0 }
 }
 
-// Writes one frame to the front of `out`. `at_flag`: the line stands at a flag already, so that the frame needs none to open it.
-pub fn write_frame(level: u8, at_flag: bool, data: &[u8], out: &mut [u8]) -> Written
-    ensures { λ r. ⌜ r ≡ writeFrame level «at_flag» (now («data» .entry)) (now (out .entry)) .answer ⌝ }
-    ensures { λ _. ⌜ now (out .exit) ≡ writeFrame level «at_flag» (now («data» .entry)) (now (out .entry)) .buffer ⌝ }
+// Writes one frame with the check of a kind to the front of `out`. `at_flag`: the line stands at a flag already, so that the frame
+// needs none to open it.
+pub fn write_frame(level: u8, check_kind: u8, at_flag: bool, data: &[u8], out: &mut [u8]) -> Written
+    ensures { λ r. ⌜ r ≡ writeFrame level «check_kind» «at_flag» (now («data» .entry)) (now (out .entry)) .answer ⌝ }
+    ensures { λ _. ⌜ now (out .exit) ≡ writeFrame level «check_kind» «at_flag» (now («data» .entry)) (now (out .entry)) .buffer ⌝ }
 {
     if qaft::MAX_LEVEL < level {
         return refused(qaft::BAD_LEVEL);
+    }
+    if qaft::MAX_KIND < check_kind {
+        return refused(qaft::BAD_KIND);
     }
     if data.len() == 0 {
         return refused(qaft::NO_DATA);
@@ -30,8 +34,9 @@ pub fn write_frame(level: u8, at_flag: bool, data: &[u8], out: &mut [u8]) -> Wri
         return refused(qaft::DATA_TOO_LONG);
     }
     let e = qaft::escapes(level);
-    let check = [qaft::check_octet(data)];
-    let n = framer::write(e, at_flag, &data[..0], data, &check, out);
+    let check = qaft::check_octets(check_kind, data);
+    let size = qaft::check_size(check_kind);
+    let n = framer::write(e, at_flag, &data[..0], data, &check[..size], out);
     if n == 0 {
         return refused(qaft::OUT_TOO_SMALL);
     }

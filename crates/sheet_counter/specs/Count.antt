@@ -17,7 +17,7 @@ use Rattle.framing.specs.Rules.{State}
 use Rattle.framing.specs.Step.{step}
 use Rattle.line.specs.Gather.{Gathered, gatherAll}
 use Rattle.qaft.specs.Answers.{done, bufferTooSmall, badLevel}
-use Rattle.qaft.specs.Limits.{maxLevel, maxSegment}
+use Rattle.qaft.specs.Limits.{sumKind, maxLevel, maxSegment}
 use Rattle.qaft_report.specs.declared.Report.{Report}
 use Rattle.qaft_rules.specs.Rules.{rules}
 use Rattle.sheet.specs.Limits.{tooLarge}
@@ -38,7 +38,7 @@ freshCounter level = record { level = level; state = fresh; octets = freshRaw; f
 
 -- with a report whose octets stand in the buffer m, the same at both levels
 abbrev pub withReport : Found → Report → (m : List ℕ) → Found
-withReport f p m = foundWith f (reported (rules 0) p m)
+withReport f p m = foundWith f (reported (rules 0 sumKind) p m)
 
 -- every report is counted
 abbrev pub always : Found → Bool
@@ -46,7 +46,7 @@ always f = true
 
 -- report after report, to the end of the chunk
 abbrev pub gatheredFrom : (level : ℕ) → declared.State → (xs m : List ℕ) → Found → Gathered (State ℕ) Found
-gatheredFrom level s xs m f = gatherAll withReport always (step (rules level)) (view s) xs m f
+gatheredFrom level s xs m f = gatherAll withReport always (step (rules level sumKind)) (view s) xs m f
 
 abbrev pub gathered : Counter → (xs m : List ℕ) → Gathered (State ℕ) Found
 gathered c xs m = gatheredFrom (c .level) (c .state) xs m (c .found)

@@ -127,7 +127,7 @@ fn count_reports(c: Counter, chunk: &[u8], buffer: &mut [u8]) -> Progress
     ensures { λ r. ⌜ r ≡ progressOf (gathered c (now (chunk .entry)) (now (buffer .entry))) ⌝ }
     ensures { λ _. ⌜ now (buffer .exit) ≡ gathered c (now (chunk .entry)) (now (buffer .entry)) .buffer ⌝ }
 {
-    let rule = qaft_read::rule(c.level);
+    let rule = qaft_read::rule(c.level, qaft::SUM);
     let mut state = c.state;
     let mut found = c.found;
     let mut i = 0;
@@ -135,7 +135,11 @@ fn count_reports(c: Counter, chunk: &[u8], buffer: &mut [u8]) -> Progress
         let scanned = deframer::scan(rule, state, &chunk[i..], buffer);
         i += scanned.taken;
         if scanned.closed {
-            found = with_report(found, qaft_read::report_on(scanned.state), buffer);
+            found = with_report(
+                found,
+                qaft_read::report_on(qaft::SUM, scanned.state),
+                buffer,
+            );
             state = rule.opened();
         } else {
             let open = scanned.state;

@@ -14,7 +14,7 @@ use Rattle.line.proofs.Gather.{gather-everything, makeAll-++}
 use Rattle.line.proofs.Trace.{trace-++}
 use Rattle.line.specs.Gather.{Gathered, makeAll}
 use Rattle.line.specs.Trace.{Trace, trace, noEvent, andThen}
-use Rattle.qaft.specs.Limits.{maxLevel}
+use Rattle.qaft.specs.Limits.{sumKind, maxLevel}
 use Rattle.qaft_laws.proofs.Rules.{lawful}
 use Rattle.qaft_report.specs.declared.Report.{Report}
 use Rattle.qaft_rules.specs.Rules.{rules}
@@ -40,26 +40,26 @@ module _ (level : ℕ) (h : level ≤ maxLevel) where
 
   -- octets, and then others
   behind-more : (s : State ℕ) (o : RawOctets) (f : Found) (xs ys m : List ℕ)
-      → let a = trace (step (rules level)) s xs m in
-      behind (rawAll level o xs) (makeAll withReport f (a .events)) ys (trace (step (rules level)) (a .state) ys (a .buffer)) ≡ behind o f (xs ++ ys) (trace (step (rules level)) s (xs ++ ys) m)
+      → let a = trace (step (rules level sumKind)) s xs m in
+      behind (rawAll level o xs) (makeAll withReport f (a .events)) ys (trace (step (rules level sumKind)) (a .state) ys (a .buffer)) ≡ behind o f (xs ++ ys) (trace (step (rules level sumKind)) s (xs ++ ys) m)
   unfolding andThen
   behind-more s o f xs ys m =
-      let a = trace (step (rules level)) s xs m in
-      let b = trace (step (rules level)) (a .state) ys (a .buffer) in
+      let a = trace (step (rules level sumKind)) s xs m in
+      let b = trace (step (rules level sumKind)) (a .state) ys (a .buffer) in
       (λ i. record {
         counter = counterAt (b .state) (sym (rawAll-++ level o xs ys) i) (sym (makeAll-++ withReport f (a .events) (b .events)) i);
         buffer = b .buffer;
       })
-      ∙ ap (behind o f (xs ++ ys)) (sym (trace-++ (step (rules level)) xs ys s m))
+      ∙ ap (behind o f (xs ++ ys)) (sym (trace-++ (step (rules level sumKind)) xs ys s m))
 
-  pub chunks-are : (xss : List (List ℕ)) (s : State ℕ) (o : RawOctets) (f : Found) (m : List ℕ) → Fit (rules level) s m
-      → countChunks (counterAt s o f) xss m ≡ behind o f (flatten xss) (trace (step (rules level)) s (flatten xss) m)
+  pub chunks-are : (xss : List (List ℕ)) (s : State ℕ) (o : RawOctets) (f : Found) (m : List ℕ) → Fit (rules level sumKind) s m
+      → countChunks (counterAt s o f) xss m ≡ behind o f (flatten xss) (trace (step (rules level sumKind)) s (flatten xss) m)
   unfolding countChunks flatten trace noEvent unskipped flowOf countAll makeAll callOf
   chunks-are [] s o f m fit = refl
   chunks-are (xs ∷ xss) s o f m fit =
-      let a = trace (step (rules level)) s xs m in
+      let a = trace (step (rules level sumKind)) s xs m in
       ap (λ (k : Call). after k xss) (count-gathered (counterAt s o f) xs m h (omega (arith, fit .room)))
-      ∙ ap (λ (g : Gathered (State ℕ) Found). after (callOf (counterAt s o f) xs g) xss) (gather-everything withReport (step (rules level)) xs s m f)
+      ∙ ap (λ (g : Gathered (State ℕ) Found). after (callOf (counterAt s o f) xs g) xss) (gather-everything withReport (step (rules level sumKind)) xs s m f)
       ∙ chunks-are xss (a .state) (rawAll level o xs) (makeAll withReport f (a .events)) (a .buffer)
-      (trace-good (step (rules level)) (Fit (rules level)) (step-keeps (rules level) (lawful level)) xs s m fit)
+      (trace-good (step (rules level sumKind)) (Fit (rules level sumKind)) (step-keeps (rules level sumKind) (lawful level sumKind)) xs s m fit)
       ∙ behind-more s o f xs (flatten xss) m

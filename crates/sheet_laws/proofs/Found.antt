@@ -11,6 +11,7 @@ use Rattle.framing.specs.Reports.{Reported, shownReports}
 use Rattle.line.specs.Gather.{makeAll}
 use Rattle.line.specs.Trace.{Event}
 use Rattle.qaft.specs.Answers.{frame, aborted, long, short, badCheck, badPair}
+use Rattle.qaft.specs.Limits.{sumKind}
 use Rattle.qaft_report.specs.declared.Report.{Report}
 use Rattle.qaft_rules.specs.Rules.{rules}
 use Rattle.sheet.specs.Limits.{tooLarge}
@@ -73,9 +74,9 @@ found-next f r rs = λ i. record {
 }
 
 -- the events of a reader, counted one by one
-pub found-events : (level : ℕ) (es : List (Event Report)) (f : Found) → makeAll withReport f es ≡ foundWhole f (shownReports (rules level) es)
+pub found-events : (level : ℕ) (es : List (Event Report)) (f : Found) → makeAll withReport f es ≡ foundWhole f (shownReports (rules level sumKind) es)
 unfolding makeAll shownReports
 found-events level [] f = found-none f
 found-events level (e ∷ es) f =
     found-events level es (withReport f (e .report) (e .buffer))
-    ∙ found-next f (record { report = e .report; octets = _ }) (shownReports (rules level) es)
+    ∙ found-next f (record { report = e .report; octets = _ }) (shownReports (rules level sumKind) es)

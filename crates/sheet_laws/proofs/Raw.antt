@@ -14,6 +14,7 @@ use Rattle.counter.specs.Counted.{counted}
 use Rattle.framing.proofs.Segments.{unskipped-++}
 use Rattle.framing.specs.Reports.{afterFlag, segments, unskipped}
 use Rattle.qaft.specs.Escape.{flag, isFlowControl}
+use Rattle.qaft.specs.Limits.{sumKind}
 use Rattle.qaft_rules.specs.Rules.{rules}
 use Rattle.sheet.specs.Limits.{tooLarge}
 use Rattle.sheet_octets.proofs.Apart.{apart, betweens}
@@ -36,17 +37,17 @@ module _ (level : ℕ) where
 
   pub rawAll-++ : (r : RawOctets) (xs ys : List ℕ) → rawAll level r (xs ++ ys) ≡ rawAll level (rawAll level r xs) ys
   rawAll-++ r xs ys = λ i. record {
-    kept = (ap (countAll tooLarge flag (r .kept)) (unskipped-++ (rules level) xs ys) ∙ countAll-++ tooLarge flag (r .kept) (unskipped (rules level) xs) (unskipped (rules level) ys)) i;
+    kept = (ap (countAll tooLarge flag (r .kept)) (unskipped-++ (rules level sumKind) xs ys) ∙ countAll-++ tooLarge flag (r .kept) (unskipped (rules level sumKind) xs) (unskipped (rules level sumKind) ys)) i;
     skipped = (ap (countAll tooLarge flag (r .skipped)) (flowOf-++ xs ys) ∙ countAll-++ tooLarge flag (r .skipped) (flowOf level xs) (flowOf level ys)) i;
   }
 
   -- ---- the whole capture
   module _ (l : List ℕ) where
     abbrev pub wholeRaw : RawOctets
-    wholeRaw = record { kept = wholeOctets tooLarge flag (unskipped (rules level) l); skipped = wholeOctets tooLarge flag (flowOf level l) }
+    wholeRaw = record { kept = wholeOctets tooLarge flag (unskipped (rules level sumKind) l); skipped = wholeOctets tooLarge flag (flowOf level l) }
 
     pub raw-whole : rawAll level freshRaw l ≡ wholeRaw
-    raw-whole = λ i. record { kept = octets-whole tooLarge flag (unskipped (rules level) l) i; skipped = octets-whole tooLarge flag (flowOf level l) i }
+    raw-whole = λ i. record { kept = octets-whole tooLarge flag (unskipped (rules level sumKind) l) i; skipped = octets-whole tooLarge flag (flowOf level l) i }
 
     -- two counts that stop, added
     both : (m n k : ℕ) → m + n ≡ k → counted tooLarge (counted tooLarge 0 m) (counted tooLarge 0 n) ≡ counted tooLarge 0 k
@@ -58,5 +59,5 @@ module _ (level : ℕ) where
     pub after-whole : counted tooLarge (wholeRaw .kept .after) (wholeRaw .skipped .after) ≡ counted tooLarge 0 (after flag l)
     after-whole = both _ _ _ (apart level l .afters)
 
-    pub skipped-whole : between flag (flowOf level l) ≡ octetsSkipped level (segments (rules level) (afterFlag (rules level) l))
+    pub skipped-whole : between flag (flowOf level l) ≡ octetsSkipped level (segments (rules level sumKind) (afterFlag (rules level sumKind) l))
     skipped-whole = omega (arith, betweens level l, reported-between level l, skipped-between level l)

@@ -12,7 +12,7 @@ use Rattle.framing.specs.Step.{fresh, step}
 use Rattle.line.specs.Gather.{makeAll}
 use Rattle.line.specs.Trace.{trace}
 use Rattle.qaft.specs.Answers.{done, frame, aborted, long, short, badCheck, badPair}
-use Rattle.qaft.specs.Limits.{maxLevel, maxSegment}
+use Rattle.qaft.specs.Limits.{sumKind, maxLevel, maxSegment}
 use Rattle.qaft_laws.proofs.Rules.{lawful}
 use Rattle.qaft_rules.specs.Rules.{rules}
 use Rattle.sheet.specs.Limits.{tooLarge}
@@ -34,15 +34,15 @@ use Rattle.sheet_table.proofs.Lines.{tally-stopped}
 use Rattle.sheet_table.specs.Table.{tallyCall}
 
 module _ (level : ℕ) (h : level ≤ maxLevel) (m : List ℕ) (room : maxSegment ≤ length m) where
-  fit : Fit (rules level) (fresh (rules level)) m
-  fit = record { room = room; formed = fresh-formed (rules level) (lawful level) }
+  fit : Fit (rules level sumKind) (fresh (rules level sumKind)) m
+  fit = record { room = room; formed = fresh-formed (rules level sumKind) (lawful level sumKind) }
 
   -- octets and reports of the whole capture, as they are gathered
-  parts-are : (s : State ℕ) (l : List ℕ) (o : RawOctets) (f : Found) → o ≡ wholeRaw level l → f ≡ foundWhole freshFound (reportsOf (rules level) l)
+  parts-are : (s : State ℕ) (l : List ℕ) (o : RawOctets) (f : Found) → o ≡ wholeRaw level l → f ≡ foundWhole freshFound (reportsOf (rules level sumKind) l)
       → countsIn (counterAt level h s o f) ≡ wholeCounts level l
   unfolding countsOf
   parts-are s l o f oe fe =
-      let rs = reportsOf (rules level) l in
+      let rs = reportsOf (rules level sumKind) l in
       let c = counted tooLarge 0 in
       ap₂ (λ (o : RawOctets) (f : Found). countsIn (counterAt level h s o f)) oe fe
       ∙ (λ i. record {
@@ -68,10 +68,10 @@ module _ (level : ℕ) (h : level ≤ maxLevel) (m : List ℕ) (room : maxSegmen
   whole : (xss : List (List ℕ)) → countedIn level xss m ≡ wholeCounts level (flatten xss)
   whole xss =
       let l = flatten xss in
-      let a = trace (step (rules level)) (fresh (rules level)) l m in
-      ap (λ (k : Counting). countsIn (k .counter)) (chunks-are level h xss (fresh (rules level)) freshRaw freshFound m fit)
+      let a = trace (step (rules level sumKind)) (fresh (rules level sumKind)) l m in
+      ap (λ (k : Counting). countsIn (k .counter)) (chunks-are level h xss (fresh (rules level sumKind)) freshRaw freshFound m fit)
       ∙ parts-are (a .state) l _ (makeAll withReport freshFound (a .events)) (raw-whole level l)
-      (found-events level (a .events) freshFound ∙ ap (foundWhole freshFound) (trace-reports (rules level) (lawful level) l m room))
+      (found-events level (a .events) freshFound ∙ ap (foundWhole freshFound) (trace-reports (rules level sumKind) (lawful level sumKind) l m room))
 
   -- 2. However a capture is cut into chunks, what is counted is what the definition says of the whole capture: with a level of 0 or 1 and a reader's
   -- buffer of 2,561 octets or more, whatever it holds, for a capture of any length.

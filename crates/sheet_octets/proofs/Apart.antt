@@ -13,6 +13,7 @@ use Rattle.framing.specs.Flags.{hasFlag}
 use Rattle.framing.specs.Reports.{unskipped}
 use Rattle.qaft.proofs.Escape.{flow-control-no-flag}
 use Rattle.qaft.specs.Escape.{flag, isFlowControl}
+use Rattle.qaft.specs.Limits.{sumKind}
 use Rattle.qaft_rules.specs.Rules.{rules}
 use Rattle.sheet_octets.specs.Raw.{flowOf}
 use Rattle.sheet_rules.specs.Counts.{skippedOf}
@@ -114,7 +115,7 @@ module _ (level : ℕ) where
         after-skipped = after-other x w e ∙ last-skipped;
       }
 
-  pub apart : (l : List ℕ) → Apart l (unskipped (rules level) l) (flowOf level l)
+  pub apart : (l : List ℕ) → Apart l (unskipped (rules level sumKind) l) (flowOf level l)
   unfolding unskipped flowOf flags hasFlag before after skippedOf
   apart [] = record {
     flags-read = refl;
@@ -130,8 +131,8 @@ module _ (level : ℕ) where
   }
   apart (x ∷ l) = go (isFlowControl level x) refl (eqb x flag) refl (apart l)
     where
-      go : (f : Bool) → isFlowControl level x ≡ f → (e : Bool) → eqb x flag ≡ e → Apart l (unskipped (rules level) l) (flowOf level l)
-          → Apart (x ∷ l) (cond f (unskipped (rules level) l) (x ∷ unskipped (rules level) l)) (cond (e || f) (x ∷ flowOf level l) (flowOf level l))
+      go : (f : Bool) → isFlowControl level x ≡ f → (e : Bool) → eqb x flag ≡ e → Apart l (unskipped (rules level sumKind) l) (flowOf level l)
+          → Apart (x ∷ l) (cond f (unskipped (rules level sumKind) l) (x ∷ unskipped (rules level sumKind) l)) (cond (e || f) (x ∷ flowOf level l) (flowOf level l))
       go true f true e a = let z : true ≡ false = sym e ∙ flow-control-no-flag level x f in let y : _≡_ {A = ℕ} 0 1 = cc in absurd (omega arith)
       go true f false e a = with-skipped x l _ _ a e f
       go false f true e a = with-flag x l _ _ a e f
@@ -139,10 +140,10 @@ module _ (level : ℕ) where
 
   -- between two flags, by what is left of all octets
   module _ (l : List ℕ) where
-    pub betweens : between flag (unskipped (rules level) l) + between flag (flowOf level l) ≡ between flag l
+    pub betweens : between flag (unskipped (rules level sumKind) l) + between flag (flowOf level l) ≡ between flag l
     betweens =
         let a = apart l in
-        omega (arith, a .flags-read, a .flags-skipped, a .lengths, a .befores, a .afters, parts-add-up flag l, parts-add-up flag (unskipped (rules level) l), parts-add-up flag (flowOf level l))
+        omega (arith, a .flags-read, a .flags-skipped, a .lengths, a .befores, a .afters, parts-add-up flag l, parts-add-up flag (unskipped (rules level sumKind) l), parts-add-up flag (flowOf level l))
 
     pub skipped-parts : before flag (flowOf level l) + (between flag (flowOf level l) + after flag (flowOf level l)) ≡ skippedOf level l
     skipped-parts = let a = apart l in omega (arith, a .flags-skipped, a .length-skipped, parts-add-up flag (flowOf level l))

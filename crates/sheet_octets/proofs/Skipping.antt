@@ -16,6 +16,7 @@ use Rattle.capture.specs.declared.Octets.{Octets}
 use Rattle.capture.specs.declared.Parts.{Parts}
 use Rattle.framing.specs.Reports.{unskipped}
 use Rattle.qaft.specs.Escape.{flag, xon, xoff, isFlowControl}
+use Rattle.qaft.specs.Limits.{sumKind}
 use Rattle.qaft_rules.specs.Rules.{rules}
 use Rattle.sheet.specs.Limits.{tooLarge}
 use Rattle.sheet_octets.proofs.Apart.{apart, betweens, skipped-parts}
@@ -82,7 +83,7 @@ module _ (level : ℕ) (l : List ℕ) where
     -- ---- q are the parts of the flags and skipped octets: what is left is read
     module _ (q : Parts) (qe : q ≡ partsOf flag (flowOf level l)) where
       -- of each part so many are read and so many skipped
-      sums : let u = unskipped (rules level) l in (before flag u + q .before ≡ p .before) × (between flag u + q .between ≡ p .between) × (after flag u + q .after ≡ p .after)
+      sums : let u = unskipped (rules level sumKind) l in (before flag u + q .before ≡ p .before) × (between flag u + q .between ≡ p .between) × (after flag u + q .after ≡ p .after)
       sums =
           let a = apart level l in (
             omega (arith, ap (λ (p : Parts). p .before) pe, ap (λ (p : Parts). p .before) qe, a .befores),
@@ -96,9 +97,9 @@ module _ (level : ℕ) (l : List ℕ) where
       abbrev left : Parts
       left = record { before = p .before - q .before; flags = p .flags; between = p .between - q .between; after = p .after - q .after }
 
-      left-is : left ≡ partsOf flag (unskipped (rules level) l)
+      left-is : left ≡ partsOf flag (unskipped (rules level sumKind) l)
       left-is =
-          let u = unskipped (rules level) l in
+          let u = unskipped (rules level sumKind) l in
           let b : p .before - q .before ≡ before flag u = omega (arith, sums .0) in
           let m : p .between - q .between ≡ between flag u = omega (arith, sums .1) in
           let e : p .after - q .after ≡ after flag u = omega (arith, sums .2) in
@@ -108,6 +109,6 @@ module _ (level : ℕ) (l : List ℕ) where
       pub raw-added : (r : RawOctets) (k s : Octets) → k ≡ partsAdded tooLarge (r .kept) left → s ≡ partsAdded tooLarge (r .skipped) q
           → _≡_ {A = RawOctets} (record { kept = k; skipped = s }) (rawAll level r l)
       raw-added r k s ke se = λ i. record {
-        kept = parts-added tooLarge flag (unskipped (rules level) l) (r .kept) left k left-is ke i;
+        kept = parts-added tooLarge flag (unskipped (rules level sumKind) l) (r .kept) left k left-is ke i;
         skipped = parts-added tooLarge flag (flowOf level l) (r .skipped) q s qe se i;
       }

@@ -8,6 +8,7 @@ use lib.Dec.{eqb}
 use Rattle.capture.specs.Octets.{freshOctets, countAll}
 use Rattle.framing.specs.Reports.{unskipped}
 use Rattle.qaft.specs.Escape.{flag, isFlowControl}
+use Rattle.qaft.specs.Limits.{sumKind}
 use Rattle.qaft_rules.specs.Rules.{rules}
 use Rattle.sheet.specs.Limits.{tooLarge}
 use Rattle.sheet_octets.specs.declared.RawOctets.{RawOctets}
@@ -31,4 +32,4 @@ freshRaw = record { kept = freshOctets; skipped = freshOctets }
 
 -- the octets of a chunk
 abbrev pub rawAll : (level : ℕ) → RawOctets → List ℕ → RawOctets
-rawAll level r xs = record { kept = countAll tooLarge flag (r .kept) (unskipped (rules level) xs); skipped = countAll tooLarge flag (r .skipped) (flowOf level xs) }
+rawAll level r xs = record { kept = countAll tooLarge flag (r .kept) (unskipped (rules level sumKind) xs); skipped = countAll tooLarge flag (r .skipped) (flowOf level xs) }

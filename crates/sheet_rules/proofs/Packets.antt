@@ -13,6 +13,7 @@ use Rattle.dlc_packet.specs.declared.Kind.the-variants.{Invalid, Reset, ResetAc
 use Rattle.framing.specs.Reports.{Reported, judged, reported, shown, unskipped, unescape, checkOf, reportsOfOctets, reportsOfSegment, reportsOfSegments}
 use Rattle.framing.specs.Step.{capped}
 use Rattle.qaft.specs.Answers.{frame}
+use Rattle.qaft.specs.Limits.{sumKind}
 use Rattle.qaft_report.specs.declared.Report.{Report}
 use Rattle.qaft_report.specs.declared.Report.the-variants.{Frame, Aborted, Long, Short, BadCheck, BadPair}
 use Rattle.qaft_rules.specs.Rules.{rules}
@@ -41,7 +42,7 @@ shown-none m = either (λ (d : List ℕ). d ≡ []) (leb (0 + 0) (length m)) (λ
 bare : (m : List ℕ) → shown m 0 0 ≡ [] → one (isData (kindOf (shown m 0 0))) + one (isDack (kindOf (shown m 0 0))) ≤ 0
 bare m e = let z : one (isData (kindOf (shown m 0 0))) + one (isDack (kindOf (shown m 0 0))) ≡ 0 = ap (λ (d : List ℕ). one (isData (kindOf d)) + one (isDack (kindOf d))) e in omega (arith, z)
 
-packet : (level : ℕ) (p : Report) (m : List ℕ) → Packet (reported (rules level) p m)
+packet : (level : ℕ) (p : Report) (m : List ℕ) → Packet (reported (rules level sumKind) p m)
 packet level (Frame n) m = at-most-one (kindOf (shown m 0 n))
 packet level Aborted m = bare m (shown-none m)
 packet level Long m = bare m (shown-none m)
@@ -64,16 +65,16 @@ count-cons p r rs = go (p r)
 fine-cons : (r : Reported Report) (rs : List (Reported Report)) → Packet r → Fine rs → Fine (r ∷ rs)
 fine-cons r rs p ih = omega (arith, p, ih, count-cons hasData r rs, count-cons hasDack r rs, count-cons (isKind frame) r rs)
 
-fine-octets : (level : ℕ) (s : List ℕ) (rs : List (Reported Report)) → Fine rs → Fine (reportsOfOctets (rules level) s ++ rs)
+fine-octets : (level : ℕ) (s : List ℕ) (rs : List (Reported Report)) → Fine rs → Fine (reportsOfOctets (rules level sumKind) s ++ rs)
 unfolding reportsOfOctets judged
 fine-octets level [] rs ih = ih
 fine-octets level (x ∷ s) rs ih =
-    let u = unescape (rules level) (x ∷ s) in
-    let p = rules level .verdict (u .dangling) (u .bad) (capped (rules level) (length (u .octets))) (checkOf (rules level) (u .octets)) in
-    fine-cons (reported (rules level) p (u .octets)) rs (packet level p (u .octets)) ih
+    let u = unescape (rules level sumKind) (x ∷ s) in
+    let p = rules level sumKind .verdict (u .dangling) (u .bad) (capped (rules level sumKind) (length (u .octets))) (checkOf (rules level sumKind) (u .octets)) in
+    fine-cons (reported (rules level sumKind) p (u .octets)) rs (packet level p (u .octets)) ih
 
 -- the DATA and DACK of segments are among their frames
-pub packets-among : (level : ℕ) (ss : List (List ℕ)) → let rs = reportsOfSegments (rules level) ss in countOf hasData rs + countOf hasDack rs ≤ countOf (isKind frame) rs
+pub packets-among : (level : ℕ) (ss : List (List ℕ)) → let rs = reportsOfSegments (rules level sumKind) ss in countOf hasData rs + countOf hasDack rs ≤ countOf (isKind frame) rs
 unfolding reportsOfSegments reportsOfSegment countOf
 packets-among level [] = omega arith
-packets-among level (s ∷ ss) = fine-octets level (unskipped (rules level) s) (reportsOfSegments (rules level) ss) (packets-among level ss)
+packets-among level (s ∷ ss) = fine-octets level (unskipped (rules level sumKind) s) (reportsOfSegments (rules level sumKind) ss) (packets-among level ss)

@@ -20,6 +20,7 @@ use Rattle.dlc_packet.specs.declared.Kind.the-variants.{Invalid, Reset, ResetAc
 use Rattle.framing.specs.Reports.{Reported, afterFlag, segments, unskipped, reportsOfSegment, reportsOf}
 use Rattle.qaft.specs.Answers.{done, frame, aborted, long, short, badCheck, badPair}
 use Rattle.qaft.specs.Escape.{flag, isFlowControl}
+use Rattle.qaft.specs.Limits.{sumKind}
 use Rattle.qaft_report.specs.Answer.{reportNumber}
 use Rattle.qaft_report.specs.declared.Report.{Report}
 use Rattle.qaft_rules.specs.Rules.{rules}
@@ -29,11 +30,11 @@ use Rattle.sheet.specs.declared.Counts.{Counts}
 -- ---- octets: raw octets of the segments that gave a report, without the skipped ones among them
 abbrev pub octetsOf : (level : ℕ) (s : List ℕ) → List (Reported Report) → ℕ
 octetsOf level s [] = 0
-octetsOf level s (r ∷ rs) = length (unskipped (rules level) s)
+octetsOf level s (r ∷ rs) = length (unskipped (rules level sumKind) s)
 
 unfoldable pub octetsReported : (level : ℕ) → List (List ℕ) → ℕ
 octetsReported level [] = 0
-octetsReported level (s ∷ ss) = octetsOf level s (reportsOfSegment (rules level) s) + octetsReported level ss
+octetsReported level (s ∷ ss) = octetsOf level s (reportsOfSegment (rules level sumKind) s) + octetsReported level ss
 
 -- skipped octets of a segment, and of all segments, reported and empty ones
 unfoldable pub skippedOf : (level : ℕ) → List ℕ → ℕ
@@ -109,8 +110,8 @@ repeatsAfter ps (r ∷ rs) = let n = repeatsAfter (ps ++ (r ∷ [])) rs in cond 
 -- ---- all counts
 unfoldable pub countsOf : (level : ℕ) (l : List ℕ) → List ℕ
 countsOf level l =
-    let rs = reportsOf (rules level) l in
-    let ss = segments (rules level) (afterFlag (rules level) l) in
+    let rs = reportsOf (rules level sumKind) l in
+    let ss = segments (rules level sumKind) (afterFlag (rules level sumKind) l) in
     before flag l
     ∷ flags flag l
     ∷ octetsReported level ss

@@ -14,7 +14,7 @@ bit-requires-3 c κs = tt
 returns : tie.Need-returns
 returns c =
     let r = c .before .before .before .args .r in
-    λ i. record { level = r .level; synced = c .before .before .bit .ensures i; pending = c .before .bit2 .ensures i; count = r .count; sum = r .sum; «bad_pair» = c .bit3 .ensures i }
+    λ i. record { level = r .level; «check_kind» = r .«check_kind»; synced = c .before .before .bit .ensures i; pending = c .before .bit2 .ensures i; count = r .count; check = r .check; «bad_pair» = c .bit3 .ensures i }
 
 pub plain-spec : {M : Type 1} → statement M
 plain-spec = tie.close (tie.spec bit-requires bit-requires-2 bit-requires-3 returns)

@@ -11,6 +11,7 @@ use Rattle.deframer.specs.declared.Rule.{Rule}
 use Rattle.framing.specs.Closing.{closing}
 use Rattle.framing.specs.Rules.{State}
 use Rattle.line.specs.Gather.{Gathered, later}
+use Rattle.qaft.specs.Limits.{sumKind}
 use Rattle.qaft_read.proofs.SharedRule.{rule-rules}
 use Rattle.qaft_report.specs.declared.Report.{Report}
 use Rattle.qaft_rules.specs.Rules.{rules}
@@ -24,27 +25,27 @@ abbrev Inv-loop : tie.InvT-loop
 Inv-loop chunk buffer₀ r state₀ found₀ i₀ buffer state found i =
     (i ≤ length chunk)
     × (length buffer ≡ length buffer₀)
-    × ((level : ℕ) (e : rulesOf r ≡ closing (rules level)) → gatheredFrom level state₀ chunk buffer₀ found₀ ≡ later i (onwards withReport always r (rules level) e state (drop i chunk) buffer found))
+    × ((level : ℕ) (e : rulesOf r ≡ closing (rules level sumKind)) → gatheredFrom level state₀ chunk buffer₀ found₀ ≡ later i (onwards withReport always r (rules level sumKind) e state (drop i chunk) buffer found))
 
 abbrev μ-loop : tie.MeasureT-loop
 μ-loop chunk buffer₀ r state₀ found₀ i₀ buffer state found i = length chunk - i
 
 -- the rule is that of the counter's level
-same : (k : tie.After-rule Inv-loop μ-loop) → rulesOf (k .rule .result) ≡ closing (rules (k .before .before .before .args .c .level))
-same k = ap rulesOf (k .rule .ensures) ∙ rule-rules _
+same : (k : tie.After-rule Inv-loop μ-loop) → rulesOf (k .rule .result) ≡ closing (rules (k .before .before .before .args .c .level) sumKind)
+same k = ap rulesOf (k .rule .ensures) ∙ rule-rules _ sumKind
 
 -- a turn, behind its call of the shared loop
 module _ (k : tie.After-scan Inv-loop μ-loop) where
   abbrev start : tie.After-rule Inv-loop μ-loop
   start = k .before .before .before .before .before .before .before
 
-  abbrev TurnAt : (level : ℕ) → rulesOf (start .rule .result) ≡ closing (rules level) → Type 0
+  abbrev TurnAt : (level : ℕ) → rulesOf (start .rule .result) ≡ closing (rules level sumKind) → Type 0
   TurnAt level e =
       let t = k .before .before .before .before .loop in
       let a = start .before .before .before .args in
-      Turn withReport always (start .rule .result) (rules level) e (gatheredFrom level (a .c .state) (a .chunk .now) (a .buffer .now) (a .c .found)) (t .state) (a .chunk .now) (t .buffer) (t .found) (t .i) (k .scan .result) (k .scan .last .1 .1 .1 .0)
+      Turn withReport always (start .rule .result) (rules level sumKind) e (gatheredFrom level (a .c .state) (a .chunk .now) (a .buffer .now) (a .c .found)) (t .state) (a .chunk .now) (t .buffer) (t .found) (t .i) (k .scan .result) (k .scan .last .1 .1 .1 .0)
 
-  turnAt : (level : ℕ) (e : rulesOf (start .rule .result) ≡ closing (rules level)) → TurnAt level e
+  turnAt : (level : ℕ) (e : rulesOf (start .rule .result) ≡ closing (rules level sumKind)) → TurnAt level e
   turnAt level e =
       let t = k .before .before .before .before .loop in
       record {
@@ -67,7 +68,7 @@ rule-requires : tie.Need-rule-requires Inv-loop μ-loop
 rule-requires c κs = tt
 
 loop-holds : tie.Need-loop-holds Inv-loop μ-loop
-loop-holds c = (omega arith, refl, λ level e. start-inv withReport always _ (rules level) e _ _ _ _ refl)
+loop-holds c = (omega arith, refl, λ level e. start-inv withReport always _ (rules level sumKind) e _ _ _ _ refl)
 
 sub-scan : tie.Need-sub-scan Inv-loop μ-loop
 sub-scan c = search needs
@@ -120,7 +121,7 @@ same-length-2 c = c .before .loop .inv .1
 returns-2 : tie.Need-returns-2 Inv-loop μ-loop
 returns-2 c =
     let t = c .before .loop in
-    ended _ (turn-none withReport always _ (rules _) (same (c .before .before .before .before)) _ (t .state) (c .before .before .before .before .before .before .before .args .chunk .now) (t .buffer) (t .found) (t .i) (omega (arith, c .loop-test .left)) (t .inv .2 _ (same (c .before .before .before .before))))
+    ended _ (turn-none withReport always _ (rules _ sumKind) (same (c .before .before .before .before)) _ (t .state) (c .before .before .before .before .before .before .before .args .chunk .now) (t .buffer) (t .found) (t .i) (omega (arith, c .loop-test .left)) (t .inv .2 _ (same (c .before .before .before .before))))
 
 pub count-reports-spec : {M : Type 1} → statement M
 count-reports-spec =

@@ -14,7 +14,7 @@ truth-requires-3 c κs = tt
 returns : tie.Need-returns
 returns c =
     let l = c .before .before .before .args .self in
-    λ i. record { level = l .level; synced = c .before .before .truth .ensures i; pending = c .before .truth2 .ensures i; count = l .count; sum = l .sum; «bad_pair» = c .truth3 .ensures i }
+    λ i. record { level = l .level; «check_kind» = l .«check_kind»; synced = c .before .before .truth .ensures i; pending = c .before .truth2 .ensures i; count = l .count; check = l .check; «bad_pair» = c .truth3 .ensures i }
 
 pub reader-spec : {M : Type 1} → statement M
 reader-spec = tie.close (tie.spec truth-requires truth-requires-2 truth-requires-3 returns)

@@ -1,13 +1,12 @@
 -- `qaft_read::Reader::scan` meets its contract: what the shared loop gives back, judged. Assumes nothing.
 use mathlib.Core.Path.{_≡_, sym, ap, ap₂, _∙_}
-use native.Mathlib.Omega.{arith}
 use borrow.Author.Needs.{needs}
 use Rattle.deframer.specs.Scan.{scanned}
 use Rattle.deframer.specs.declared.Rule.{Rule}
 use Rattle.deframer.specs.declared.State.{State}
 use Rattle.qaft_read.proofs.Reader.scan.Statement.{statement}
 use Rattle.qaft_read.proofs.Reader.scan.Tie as tie
-use Rattle.qaft_read.proofs.Scanning.{buffer-is, sum-small, scan-open, scan-closed}
+use Rattle.qaft_read.proofs.Scanning.{buffer-is, scan-open, scan-closed}
 use Rattle.qaft_read.specs.Scanned.{rule, stateOf}
 use Rattle.qaft_read.specs.declared.Reader.{Reader}
 use Rattle.qaft_report.specs.declared.Outcome.the-variants.{Reported, UsedUp}
@@ -16,8 +15,8 @@ use Rattle.qaft_report.specs.declared.Outcome.the-variants.{Reported, UsedUp}
 handed : (c : tie.After-judge)
     → let a = c .before .before .before .before .before .before .before .before .before .before .args in
     let k = c .before .before .before .before .scan in
-    (k .result ≡ scanned (rule (a .self .level)) (stateOf (a .self)) (a .chunk .now) (a .buffer .now) .answer)
-    × (k .last .1 .1 .1 .0 ≡ scanned (rule (a .self .level)) (stateOf (a .self)) (a .chunk .now) (a .buffer .now) .buffer)
+    (k .result ≡ scanned (rule (a .self .level) (a .self .«check_kind»)) (stateOf (a .self)) (a .chunk .now) (a .buffer .now) .answer)
+    × (k .last .1 .1 .1 .0 ≡ scanned (rule (a .self .level) (a .self .«check_kind»)) (stateOf (a .self)) (a .chunk .now) (a .buffer .now) .buffer)
 handed c =
     let a = c .before .before .before .before .before .before .before .before .before .before .args in
     let k = c .before .before .before .before .scan in
@@ -46,12 +45,7 @@ enum-told : tie.Need-enum-told
 enum-told c = search needs
 
 at-requires : tie.Need-at-requires
-at-requires c κs =
-    let d = c .before .before in
-    let p = d .before .before .before .before .before .before .before .before .before .before in
-    let a = p .args in
-    let h = handed d in
-    sum-small (a .self) (a .chunk .now) (a .buffer .now) (p .pre) _ _ (h .0) (h .1) (omega arith) (sym (d .judge .ensures) ∙ c .enum-told .given .1)
+at-requires c κs = tt
 
 same-length : tie.Need-same-length
 same-length c = search needs

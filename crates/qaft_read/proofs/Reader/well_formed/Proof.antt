@@ -1,20 +1,24 @@
 -- `qaft_read::Reader::well_formed` meets its contract: what the shared rule calls ill formed is 5. Assumes nothing.
 use mathlib.Core.Bool.{not}
-use mathlib.Core.Path.{_≡_, refl, ap, ap₂, _∙_}
+use Prim.Native.Nat.{ℕ}
+use mathlib.Core.Path.{_≡_, ap, ap₂, _∙_}
 use Rattle.deframer.specs.Rule.{rulesOf}
 use Rattle.deframer.specs.Scan.{view}
 use Rattle.deframer.specs.declared.Rule.{Rule}
 use Rattle.deframer.specs.declared.State.{State}
+use Rattle.framing.specs.Rules as framed
+use Rattle.framing.specs.Rules.{Rules}
 use Rattle.framing.specs.Step as framing
 use Rattle.qaft_read.proofs.Reader.well_formed.Statement.{statement}
 use Rattle.qaft_read.proofs.Reader.well_formed.Tie as tie
+use Rattle.qaft_read.proofs.SharedRule.{rule-rules}
 use Rattle.qaft_read.specs.Scanned.{rule, stateOf}
 use Rattle.qaft_read.specs.State.{malformed}
 use Rattle.qaft_read.specs.declared.Reader.{Reader}
 
-by-rule : (r : Reader) → framing.malformed (rulesOf (rule (r .level))) (view (stateOf r)) ≡ malformed r
+by-rule : (r : Reader) → framing.malformed (rulesOf (rule (r .level) (r .«check_kind»))) (view (stateOf r)) ≡ malformed r
 unfolding framing.malformed malformed
-by-rule r = refl
+by-rule r = ap (λ (l : Rules ℕ (framed.State ℕ)). framing.malformed l (view (stateOf r))) (rule-rules (r .level) (r .«check_kind»))
 
 rule-requires : tie.Need-rule-requires
 rule-requires c κs = tt
