@@ -39,10 +39,11 @@ struct RawReading {
 #[derive(Debug, Clone, Copy, PartialEq, Eq)]
 pub struct RawReader {
     pub level: u8,
+    pub check_kind: u8,
     pub synced: u8,
     pub pending: u8,
     pub count: usize,
-    pub sum: u8,
+    pub check: u16,
     pub bad_pair: u8,
 }
 
@@ -50,10 +51,11 @@ impl From<State> for RawReader {
     fn from(state: State) -> Self {
         RawReader {
             level: state.level,
+            check_kind: state.kind,
             synced: state.flag.into(),
             pending: state.pending.into(),
             count: state.count,
-            sum: state.sum,
+            check: state.check,
             bad_pair: state.bad_pair.into(),
         }
     }
@@ -72,13 +74,14 @@ extern "C" {
     fn hasfandur_qaft_check(octets: *const u8, length: usize) -> u8;
     fn hasfandur_qaft_write(
         level: u8,
+        check_kind: u8,
         at_flag: bool,
         data: *const u8,
         data_length: usize,
         out: *mut u8,
         out_length: usize,
     ) -> RawWritten;
-    fn hasfandur_qaft_fresh(level: u8) -> RawReader;
+    fn hasfandur_qaft_fresh(level: u8, check_kind: u8) -> RawReader;
     fn hasfandur_qaft_read(
         reader: RawReader,
         chunk: *const u8,
@@ -123,13 +126,14 @@ pub fn qaft_check(octets: &[u8]) -> u8 {
     unsafe { hasfandur_qaft_check(octets.as_ptr(), octets.len()) }
 }
 
-pub fn qaft_write(level: u8, at_flag: bool, data: &[u8], out: &mut [u8]) -> Written {
+pub fn qaft_write(level: u8, kind: u8, at_flag: bool, data: &[u8], out: &mut [u8]) -> Written {
     let (place, room) = (out.as_mut_ptr(), out.len());
-    written(unsafe { hasfandur_qaft_write(level, at_flag, data.as_ptr(), data.len(), place, room) })
+    let (octets, length) = (data.as_ptr(), data.len());
+    written(unsafe { hasfandur_qaft_write(level, kind, at_flag, octets, length, place, room) })
 }
 
-pub fn qaft_fresh(level: u8) -> RawReader {
-    unsafe { hasfandur_qaft_fresh(level) }
+pub fn qaft_fresh(level: u8, kind: u8) -> RawReader {
+    unsafe { hasfandur_qaft_fresh(level, kind) }
 }
 
 pub fn qaft_read(reader: RawReader, portion: &[u8], store: &mut [u8]) -> (RawReader, Answer) {

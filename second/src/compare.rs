@@ -1,8 +1,17 @@
 //! The comparison, one file a layer.
+
+/// A name for each level.
+macro_rules! at_levels {
+    ($name:literal) => {
+        [concat!($name, " at level 0"), concat!($name, " at level 1")]
+    };
+}
+
 mod afp_cases;
 mod afp_read;
 mod afp_write;
 mod captures;
+mod checks;
 mod flow;
 mod kiss;
 mod link;
@@ -27,8 +36,14 @@ type Layer = fn(&Rng, u64, &mut Tally);
 /// A layer's name, its function, and the numbers that its inputs have to bring up.
 const LAYERS: &[(&str, Layer, &[u8])] = &[
     ("QAFT check", sums::qaft_check, &[]),
-    ("QAFT writer", qaft_write::compare, &[0, 1, 2, 3, 6]),
-    ("QAFT reader", reader::compare, &reader::NUMBERS),
+    ("QAFT writer", qaft_write::sum, &qaft_write::NUMBERS),
+    (
+        "QAFT writer, longer check",
+        qaft_write::fcs,
+        &qaft_write::NUMBERS,
+    ),
+    ("QAFT reader", reader::sum, &reader::NUMBERS),
+    ("QAFT reader, longer check", reader::fcs, &reader::NUMBERS),
     ("KISS writer", kiss::writer, &[0, 1, 2, 64]),
     ("KISS reader", kiss::reader, &kiss::READER_NUMBERS),
     ("QAFT to KISS", kiss::from_qaft, &[0, 6, 64]),

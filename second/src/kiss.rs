@@ -4,6 +4,7 @@ pub mod reader;
 #[cfg(test)]
 mod worked;
 
+use crate::check::Check;
 use crate::{qaft, Written};
 
 pub const FEND: u8 = 0xC0;
@@ -178,7 +179,7 @@ pub fn from_qaft(level: u8, capture: &[u8], out: &mut [u8]) -> Converted {
     if level > 1 {
         return Converted::refused(6);
     }
-    let reports = qaft::read_line(level, capture).reports;
+    let reports = qaft::read_line(level, Check::Sum, capture).reports;
     let bodies: Vec<Vec<u8>> = reports
         .iter()
         .filter_map(|r| match r {
@@ -199,7 +200,7 @@ pub fn to_qaft(level: u8, capture: &[u8], out: &mut [u8]) -> Converted {
     let bodies: Vec<Vec<u8>> = reports
         .iter()
         .filter_map(|r| match r {
-            Report::Frame(payload) => Some(qaft::body(level, payload)),
+            Report::Frame(payload) => Some(qaft::body(level, Check::Sum, payload)),
             _ => None,
         })
         .collect();

@@ -4,9 +4,11 @@
 #![forbid(unsafe_code)]
 
 pub mod afp;
+pub mod check;
 pub mod kiss;
 pub mod link;
 pub mod listing;
+pub mod longest;
 pub mod qaft;
 pub mod reader;
 pub mod rng;

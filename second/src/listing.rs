@@ -1,4 +1,5 @@
 //! The text that the listing programs print of a capture.
+use crate::check::Check;
 use crate::{kiss, qaft};
 use std::fmt::Write;
 
@@ -48,7 +49,7 @@ fn text(
 }
 
 pub fn listing(level: u8, capture: &[u8]) -> String {
-    let line = qaft::read_line(level, capture);
+    let line = qaft::read_line(level, Check::Sum, capture);
     let heading = format!("QAFT listing level {level}");
     text(
         &heading,

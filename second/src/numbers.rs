@@ -1,6 +1,7 @@
 //! The numbers of include/hasfandur.h against this program's: for each number given back an input that the papers give it for,
 //! for each size the constant here, for each kind of packet one that this program sends. No constant of the header may be left out.
 use crate::afp::{self, check_sequence};
+use crate::check::Check;
 use crate::kiss;
 use crate::link::{self, Link, Mode};
 use crate::qaft;
@@ -32,34 +33,30 @@ fn header() -> BTreeMap<String, usize> {
 }
 
 fn qaft_numbers() -> Vec<(&'static str, usize)> {
-    let write = |level, length, room: usize| {
-        qaft::write(level, false, &vec![0; length], &mut vec![0; room]).number
+    let write = |level, kind, length, room: usize| {
+        qaft::write(level, kind, false, &vec![0; length], &mut vec![0; room]).number
     };
     let read = |state, portion: &[u8], room: usize| {
         reader::read(state, portion, &mut vec![0; room]).1.number
     };
+    let (fresh, store) = (State::fresh(0, 0), Check::Sum.longest());
     let line = |segment: &[u8]| {
         let line = [&[qaft::FLAG], segment, &[qaft::FLAG]].concat();
-        read(State::fresh(0), &line, reader::STORE)
+        read(fresh, &line, store)
     };
-    let unsynced = State {
-        count: 1,
-        ..State::fresh(0)
-    };
+    let unsynced = State { count: 1, ..fresh };
     [
-        ("DONE", write(0, 1, 4)),
-        ("QAFT_NO_DATA", write(0, 0, 4)),
-        ("QAFT_DATA_TOO_LONG", write(0, qaft::MAX_DATA + 1, 0)),
-        ("QAFT_OUT_TOO_SMALL", write(0, 1, 3)),
-        (
-            "QAFT_BUFFER_TOO_SMALL",
-            read(State::fresh(0), &[], reader::STORE - 1),
-        ),
-        ("QAFT_BAD_STATE", read(unsynced, &[], reader::STORE)),
-        ("QAFT_BAD_LEVEL", write(2, 1, 4)),
+        ("DONE", write(0, 0, 1, 4)),
+        ("QAFT_NO_DATA", write(0, 0, 0, 4)),
+        ("QAFT_DATA_TOO_LONG", write(0, 0, qaft::MAX_DATA + 1, 0)),
+        ("QAFT_OUT_TOO_SMALL", write(0, 0, 1, 3)),
+        ("QAFT_BUFFER_TOO_SMALL", read(fresh, &[], store - 1)),
+        ("QAFT_BAD_STATE", read(unsynced, &[], store)),
+        ("QAFT_BAD_LEVEL", write(2, 0, 1, 4)),
+        ("QAFT_BAD_KIND", write(0, 2, 1, 4)),
         ("QAFT_FRAME", line(&[0x41, 0xBF])),
         ("QAFT_ABORTED", line(&[0x10, qaft::ESCAPE])),
-        ("QAFT_LONG", line(&[0; reader::MANY])),
+        ("QAFT_LONG", line(&[0; Check::Sum.many()])),
         ("QAFT_SHORT", line(&[0])),
         ("QAFT_BAD_CHECK", line(&[0x41, 0xBE])),
         ("QAFT_USED_UP", line(&[])),
@@ -67,6 +64,14 @@ fn qaft_numbers() -> Vec<(&'static str, usize)> {
     ]
     .map(|(name, number)| (name, number.into()))
     .to_vec()
+}
+
+/// The kinds of check.
+fn check_kinds() -> Vec<(&'static str, usize)> {
+    vec![
+        ("QAFT_SUM", Check::Sum.kind().into()),
+        ("QAFT_FCS", Check::Fcs.kind().into()),
+    ]
 }
 
 fn kiss_numbers() -> Vec<(&'static str, usize)> {
@@ -202,8 +207,10 @@ fn afp_numbers() -> Vec<(&'static str, usize)> {
 fn sizes() -> Vec<(&'static str, usize)> {
     vec![
         ("QAFT_MAX_DATA", qaft::MAX_DATA),
-        ("QAFT_MAX_SEGMENT", reader::STORE),
-        ("QAFT_MAX_FRAME", qaft::MAX_FRAME),
+        ("QAFT_MAX_SEGMENT", Check::Sum.longest()),
+        ("QAFT_MAX_FRAME", Check::Sum.max_frame()),
+        ("QAFT_FCS_MAX_SEGMENT", Check::Fcs.longest()),
+        ("QAFT_FCS_MAX_FRAME", Check::Fcs.max_frame()),
         ("KISS_MAX_SEGMENT", kiss::reader::STORE),
         ("KISS_MAX_FRAME", kiss::MAX_FRAME),
         ("DLC_MAX_PAYLOAD", link::PAYLOAD),
@@ -269,6 +276,7 @@ fn sheet_places() -> Vec<(&'static str, usize)> {
 #[test]
 fn numbers_of_the_header() {
     let mut ours = qaft_numbers();
+    ours.extend(check_kinds());
     ours.extend(kiss_numbers());
     ours.extend(link_numbers());
     ours.extend(packets_and_states());

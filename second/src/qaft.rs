@@ -1,4 +1,5 @@
-//! QAFT on the line: the frame writer, and a reader of whole lines.
+//! QAFT on the line, with its own check or the longer one: the frame writer, and a reader of whole lines.
+use crate::check::Check;
 use crate::Written;
 
 pub const FLAG: u8 = 0x7E;
@@ -6,10 +7,8 @@ pub const ESCAPE: u8 = 0x7D;
 /// Flow control of serial cards, where it stands raw on a level 1 line.
 pub const FLOW_CONTROL: [u8; 2] = [0x11, 0x13];
 pub const MAX_DATA: usize = 2560;
-/// The longest frame: two flags, and each octet of data and check escaped.
-pub const MAX_FRAME: usize = 2 * (MAX_DATA + 1) + 2;
 
-/// The check octet: the two's complement of the data's sum modulo 256.
+/// QAFT's check octet: the two's complement of the data's sum modulo 256.
 pub fn check(data: &[u8]) -> u8 {
     let sum: u64 = data.iter().map(|&x| u64::from(x)).sum();
     ((256 - sum % 256) % 256) as u8
@@ -43,17 +42,20 @@ pub fn escaped(level: u8, octets: &[u8]) -> Vec<u8> {
 }
 
 /// A frame's body: data, then check, both escaped.
-pub fn body(level: u8, data: &[u8]) -> Vec<u8> {
+pub fn body(level: u8, check: Check, data: &[u8]) -> Vec<u8> {
     let mut line = escaped(level, data);
-    line.extend(escaped(level, &[check(data)]));
+    line.extend(escaped(level, &check.octets(data)));
     line
 }
 
-/// Writes one frame to the front of `out`. Refusals in the order 6, 1, 2, 3.
-pub fn write(level: u8, at_flag: bool, data: &[u8], out: &mut [u8]) -> Written {
+/// Writes one frame to the front of `out`. Refusals in the order 6, 7, 1, 2, 3.
+pub fn write(level: u8, kind: u8, at_flag: bool, data: &[u8], out: &mut [u8]) -> Written {
     if level > 1 {
         return Written::refused(6);
     }
+    let Some(check) = Check::of(kind) else {
+        return Written::refused(7);
+    };
     if data.is_empty() {
         return Written::refused(1);
     }
@@ -64,7 +66,7 @@ pub fn write(level: u8, at_flag: bool, data: &[u8], out: &mut [u8]) -> Written {
     if !at_flag {
         frame.push(FLAG);
     }
-    frame.extend(body(level, data));
+    frame.extend(body(level, check, data));
     frame.push(FLAG);
     Written::put(&frame, out, 3)
 }
@@ -123,8 +125,8 @@ fn unescaped(level: u8, segment: &[u8]) -> Option<(Vec<u8>, bool)> {
 }
 
 /// The report on one segment, the first that applies; an empty one says nothing, nor does one of skipped octets alone. The
-/// segment holds no flag.
-pub fn report(level: u8, segment: &[u8]) -> Option<Report> {
+/// segment holds no flag. The check is calculated anew from what would be the data.
+pub fn report(level: u8, check: Check, segment: &[u8]) -> Option<Report> {
     let segment = unskipped(level, segment);
     if segment.is_empty() {
         return None;
@@ -135,14 +137,14 @@ pub fn report(level: u8, segment: &[u8]) -> Option<Report> {
     if !good {
         return Some(Report::Pair);
     }
-    if octets.len() > MAX_DATA + 1 {
+    if octets.len() > check.longest() {
         return Some(Report::Long);
     }
-    if octets.len() < 2 {
+    if octets.len() < 1 + check.size() {
         return Some(Report::Short);
     }
-    let data = &octets[..octets.len() - 1];
-    if octets[data.len()] != check(data) {
+    let (data, last) = octets.split_at(octets.len() - check.size());
+    if last != check.octets(data) {
         return Some(Report::Bad);
     }
     Some(Report::Frame(data.to_vec()))
@@ -181,11 +183,11 @@ pub struct Line {
 }
 
 /// Reads a whole line.
-pub fn read_line(level: u8, line: &[u8]) -> Line {
+pub fn read_line(level: u8, check: Check, line: &[u8]) -> Line {
     let cut = cut(line);
-    let reports = cut.closed.iter().filter_map(|s| report(level, s)).collect();
+    let reports = cut.closed.iter().filter_map(|s| report(level, check, s));
     Line {
-        reports,
+        reports: reports.collect(),
         before: cut.before.len(),
         after: cut.after.len(),
     }

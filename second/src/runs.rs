@@ -1,19 +1,20 @@
 //! Runs of the chunk reader and the link against what the paper says of whole lines and of lists of events.
+use crate::check::Check;
 use crate::link::{Link, Mode, PAYLOAD, QUEUE, REPLY};
 use crate::qaft::{body, read_line, Report, FLAG, FLOW_CONTROL};
-use crate::reader::{read, State, STORE};
+use crate::reader::{read, State};
 use crate::rng::Rng;
 
-/// A line of frames written at a level, damaged frames, flags and noise.
-fn line(rng: &Rng, level: u8) -> Vec<u8> {
+/// A line of frames written at a level with a check, damaged frames, flags and noise.
+fn line(rng: &Rng, level: u8, check: Check) -> Vec<u8> {
     let mut line = rng.octets(rng.below(3));
     for _ in 0..rng.below(8) {
-        let size = rng.pick(&[0, 1, 2, 5, 30, 30, 30, 2559, 2560, 2561, 2562]);
+        let size = rng.pick(&[0, 1, 2, 5, 30, 30, 30, 2559, 2560, 2561, 2562, 2563]);
         let data: Vec<u8> = (0..size)
             .map(|_| rng.pick(&[0x7D, 0x7E, 0x11, 0, rng.octet()]))
             .collect();
         line.push(FLAG);
-        line.extend(body(level, &data));
+        line.extend(body(level, check, &data));
         if rng.once_in(3) {
             let i = rng.below(line.len());
             line[i] = rng.pick(&[0x7D, 0x7E, rng.octet()]);
@@ -23,9 +24,9 @@ fn line(rng: &Rng, level: u8) -> Vec<u8> {
 }
 
 /// All reports of a line that is handed over in portions of random lengths.
-fn reports(rng: &Rng, level: u8, line: &[u8]) -> Vec<Report> {
-    let mut store = vec![0xAA; STORE];
-    let mut state = State::fresh(level);
+fn reports(rng: &Rng, level: u8, check: Check, line: &[u8]) -> Vec<Report> {
+    let mut store = vec![0xAA; check.longest()];
+    let mut state = State::fresh(level, check.kind());
     let mut reports = Vec::new();
     let most = rng.pick(&[1, 3, 100, 9000]);
     let mut place = 0;
@@ -47,13 +48,16 @@ fn reports(rng: &Rng, level: u8, line: &[u8]) -> Vec<Report> {
     reports
 }
 
+/// Lines with either check, read with either.
 #[test]
 fn portions_don_t_matter() {
     let rng = Rng::new(1);
-    for _ in 0..3000 {
-        let level = rng.below(2) as u8;
-        let line = line(&rng, level);
-        assert_eq!(reports(&rng, level, &line), read_line(level, &line).reports);
+    for i in 0..6000 {
+        let (level, check) = (rng.below(2) as u8, Check::BOTH[i % 2]);
+        let written = rng.pick(&[check, check, check, check.other()]);
+        let line = line(&rng, level, written);
+        let whole = read_line(level, check, &line).reports;
+        assert_eq!(reports(&rng, level, check, &line), whole);
     }
 }
 
@@ -61,8 +65,9 @@ fn portions_don_t_matter() {
 #[test]
 fn flow_control_changes_no_report() {
     let rng = Rng::new(4);
-    for _ in 0..1000 {
-        let line = line(&rng, 1);
+    for i in 0..2000 {
+        let check = Check::BOTH[i % 2];
+        let line = line(&rng, 1, check);
         let mut more = Vec::new();
         for &x in &line {
             while rng.once_in(4) {
@@ -70,35 +75,44 @@ fn flow_control_changes_no_report() {
             }
             more.push(x);
         }
-        assert_eq!(reports(&rng, 1, &more), read_line(1, &line).reports);
+        let without = read_line(1, check, &line).reports;
+        assert_eq!(reports(&rng, 1, check, &more), without);
     }
 }
 
 #[test]
 fn reader_refusals() {
-    let fresh = State::fresh(0);
     let number = |state, room| {
         let (after, answer) = read(state, &[FLAG, 1], &mut vec![0; room]);
-        assert!(answer.number == 15 || after == state && answer.taken == 0);
+        assert!(answer.number > 9 || after == state && answer.taken == 0);
         answer.number
     };
-    let bad = State { sum: 1, ..fresh };
-    assert_eq!(number(State { level: 2, ..bad }, 0), 6);
-    assert_eq!(number(bad, STORE - 1), 4);
-    assert_eq!(number(bad, STORE), 5);
-    assert_eq!(number(State { count: 1, ..fresh }, STORE), 5);
-    let in_frame = State {
-        flag: true,
-        ..fresh
-    };
-    let count = |count| State { count, ..in_frame };
-    assert_eq!(number(count(2563), STORE), 5);
-    let pending = State {
-        pending: true,
-        ..fresh
-    };
-    assert_eq!(number(pending, STORE), 5);
-    assert_eq!(number(fresh, STORE), 15);
+    for check in Check::BOTH {
+        let store = check.longest();
+        let fresh = State::fresh(0, check.kind());
+        let bad = State { check: 1, ..fresh };
+        let unknown = State { kind: 2, ..bad };
+        let mut no_level = unknown;
+        no_level.level = 2;
+        assert_eq!(number(no_level, 0), 6);
+        assert_eq!(number(unknown, 0), 7);
+        assert_eq!(number(bad, store - 1), 4);
+        assert_eq!(number(bad, store), 5);
+        assert_eq!(number(State { count: 1, ..fresh }, store), 5);
+        let in_frame = State {
+            flag: true,
+            ..fresh
+        };
+        let count = |count| State { count, ..in_frame };
+        assert_eq!(number(count(store + 1), store), 12);
+        assert_eq!(number(count(store + 2), store), 5);
+        let pending = State {
+            pending: true,
+            ..fresh
+        };
+        assert_eq!(number(pending, store), 5);
+        assert_eq!(number(fresh, store), 15);
+    }
 }
 
 fn opened() -> Link {

@@ -3,6 +3,7 @@
 #[cfg(test)]
 mod worked;
 
+use crate::check::Check;
 use crate::link::{Link, DACK, DATA, REPLY};
 use crate::qaft::{self, Report};
 use std::ops::Range;
@@ -103,7 +104,7 @@ pub fn counts(level: u8, capture: &[u8]) -> Counts {
         let kept = qaft::unskipped(level, segment).len();
         counts.skipped += (segment.len() - kept) as u64;
         counts.segments += kept as u64;
-        let Some(report) = qaft::report(level, segment) else {
+        let Some(report) = qaft::report(level, Check::Sum, segment) else {
             continue;
         };
         let kind = match report {

@@ -1,7 +1,9 @@
 //! The cases that the scope paper works out, and published vectors, against this program alone.
+mod longer;
 mod pairs;
 
 use crate::afp::{self, check_sequence, is_id, is_supplementary, Part};
+use crate::check::Check;
 use crate::listing::listing;
 use crate::qaft::{self, Report};
 use crate::Written;
@@ -11,10 +13,16 @@ fn hex(text: &str) -> Vec<u8> {
     text.split_whitespace().map(octet).collect()
 }
 
+/// Each level with each check.
+fn ways() -> impl Iterator<Item = (u8, Check)> {
+    let levels = |check| [(0, check), (1, check)];
+    Check::BOTH.into_iter().flat_map(levels)
+}
+
 /// One frame into a buffer that has room for any, cut to what was written.
-fn frame(level: u8, at_flag: bool, data: &str) -> Vec<u8> {
-    let mut out = vec![0xAA; qaft::MAX_FRAME];
-    let written = qaft::write(level, at_flag, &hex(data), &mut out);
+fn framed(level: u8, check: Check, at_flag: bool, data: &[u8]) -> Vec<u8> {
+    let mut out = vec![0xAA; check.max_frame()];
+    let written = qaft::write(level, check.kind(), at_flag, data, &mut out);
     assert_eq!(written.number, 0);
     assert!(out[written.length..].iter().all(|&x| x == 0xAA));
     out.truncate(written.length);
@@ -23,6 +31,7 @@ fn frame(level: u8, at_flag: bool, data: &str) -> Vec<u8> {
 
 #[test]
 fn qaft_frames() {
+    let frame = |level, at_flag, data: &str| framed(level, Check::Sum, at_flag, &hex(data));
     assert_eq!(frame(0, false, "41"), hex("7E 41 BF 7E"));
     assert_eq!(frame(0, false, "7E"), hex("7E 7D 5E 82 7E"));
     assert_eq!(frame(0, false, "82"), hex("7E 82 7D 5E 7E"));
@@ -35,23 +44,31 @@ fn qaft_frames() {
 
 #[test]
 fn qaft_writer_refusals() {
-    let write = |level, length, room| {
+    let write = |level, kind, length, room| {
         let mut out = vec![0xAA; room];
-        let written = qaft::write(level, false, &vec![0; length], &mut out);
+        let written = qaft::write(level, kind, false, &vec![0; length], &mut out);
         assert!(written.number == 0 || out.iter().all(|&x| x == 0xAA));
         (written.number, written.length)
     };
-    assert_eq!(write(2, 0, 0), (6, 0));
-    assert_eq!(write(0, 0, 0), (1, 0));
-    assert_eq!(write(1, 2561, 0), (2, 0));
-    assert_eq!(write(1, 2560, 2562), (3, 0));
-    assert_eq!(write(1, 2560, 2563), (0, 2563));
+    assert_eq!(write(2, 2, 0, 0), (6, 0));
+    for kind in [2, 3, 128, 255] {
+        assert_eq!(write(0, kind, 0, 0), (7, 0));
+        assert_eq!(write(1, kind, 1, 99), (7, 0));
+    }
+    // a flag before and one behind, and the check octets
+    for (kind, more) in [(0, 3), (1, 4)] {
+        assert_eq!(write(2, kind, 0, 0), (6, 0));
+        assert_eq!(write(0, kind, 0, 0), (1, 0));
+        assert_eq!(write(1, kind, 2561, 0), (2, 0));
+        assert_eq!(write(1, kind, 2560, 2559 + more), (3, 0));
+        assert_eq!(write(1, kind, 2560, 2560 + more), (0, 2560 + more));
+    }
 }
 
 #[test]
 fn qaft_segments() {
     for level in [0, 1] {
-        let report = |segment: &[u8]| qaft::report(level, segment);
+        let report = |segment: &[u8]| qaft::report(level, Check::Sum, segment);
         assert_eq!(report(&[]), None);
         assert_eq!(report(&hex("10 7D")), Some(Report::Aborted));
         assert_eq!(report(&hex("7D")), Some(Report::Aborted));
@@ -67,8 +84,9 @@ fn qaft_segments() {
 fn flow_control() {
     let frame = |data: &str| Some(Report::Frame(hex(data)));
     let case = |segment: &str, level_0, level_1| {
-        assert_eq!(qaft::report(0, &hex(segment)), level_0, "{segment}");
-        assert_eq!(qaft::report(1, &hex(segment)), level_1, "{segment}");
+        let report = |level| qaft::report(level, Check::Sum, &hex(segment));
+        assert_eq!(report(0), level_0, "{segment}");
+        assert_eq!(report(1), level_1, "{segment}");
     };
     case("11", Some(Report::Short), None);
     case("13 11 13", Some(Report::Bad), None);

@@ -2,6 +2,7 @@
 //! take most of the time.
 use super::make::each;
 use super::{flow, pairs};
+use second::check::Check;
 use second::rng::Rng;
 use second::{kiss, qaft};
 
@@ -38,8 +39,8 @@ pub const QAFT: Framing = Framing {
         0x31,
         0x83,
     ],
-    others: || [pairs::each(), pairs::each_long(&pairs::PARTNERS)].concat(),
-    body: |rng, octets| qaft::body(rng.below(2) as u8, octets),
+    others: pairs::each_of_qaft,
+    body: |rng, octets| qaft::body(rng.below(2) as u8, Check::Sum, octets),
 };
 
 pub const KISS: Framing = Framing {
@@ -91,7 +92,9 @@ impl Framing {
             1 => vec![self.flag; rng.between(1, 4)],
             2 => [&rng.octets(rng.below(3))[..], &[self.flag]].concat(),
             3 => [&octets(rng, size)[..], &[self.escape, self.flag]].concat(),
-            4 if rng.once_in(24) => [&pairs::near_limit(rng)[..], &[self.flag]].concat(),
+            4 if rng.once_in(24) => {
+                [&pairs::near_limit(rng, Check::Sum)[..], &[self.flag]].concat()
+            }
             _ => [&(self.body)(rng, &octets(rng, size))[..], &[self.flag]].concat(),
         };
         if rng.once_in(4) {

@@ -1,8 +1,8 @@
 //! Flow control of change request 2026-02: raw 11 and 13 strewn over lines, and the ways in which they stand there. At level 1 a
 //! reader skips them; at level 0, and on KISS lines, they are data.
 use super::tally::Tally;
+use second::check::Check;
 use second::qaft::{self, Report, ESCAPE, FLAG, FLOW_CONTROL};
-use second::reader::MANY;
 use second::rng::Rng;
 
 pub fn is_flow(x: u8) -> bool {
@@ -37,7 +37,7 @@ pub fn strewn(rng: &Rng, line: &[u8]) -> Vec<u8> {
     for _ in 0..(1 + line.len() / 500).min(8) {
         if rng.once_in(4) {
             let place = rng.below(more.len() + 1);
-            more.splice(place..place, run(rng, MANY));
+            more.splice(place..place, run(rng, Check::Fcs.many()));
         }
     }
     more
@@ -57,29 +57,30 @@ fn behind_escape(segment: &[u8], partner: bool) -> bool {
 }
 
 /// Whether a segment is a frame at level 1, and another report where its flow control is data.
-fn saved_from(segment: &[u8], other: Report) -> bool {
-    let frame = matches!(qaft::report(1, segment), Some(Report::Frame(_)));
-    frame && qaft::report(0, segment) == Some(other)
+fn saved_from(check: Check, segment: &[u8], other: Report) -> bool {
+    let frame = matches!(qaft::report(1, check, segment), Some(Report::Frame(_)));
+    frame && qaft::report(0, check, segment) == Some(other)
 }
 
-type Way = (&'static str, fn(&[u8]) -> bool);
+type Way = (&'static str, fn(Check, &[u8]) -> bool);
 
 /// What has to come up at level 1, of closed segments with flow control.
 const WAYS: [Way; 8] = [
-    ("11 or 13 behind a flag", |s| is_flow(s[0])),
-    ("11 or 13 before a flag", |s| is_flow(s[s.len() - 1])),
-    ("11 or 13 in a run", |s| {
+    ("11 or 13 behind a flag", |_, s| is_flow(s[0])),
+    ("11 or 13 before a flag", |_, s| is_flow(s[s.len() - 1])),
+    ("11 or 13 in a run", |_, s| {
         s.windows(2)
             .any(|pair| is_flow(pair[0]) && is_flow(pair[1]))
     }),
-    ("nothing but 11 or 13", |s| s.iter().all(|&x| is_flow(x))),
-    ("11 or 13 inside a pair", |s| behind_escape(s, true)),
-    ("7D, 11 or 13, flag", |s| behind_escape(s, false)),
-    ("frames that would be bad checks with 11 and 13", |s| {
-        saved_from(s, Report::Bad)
-    }),
-    ("frames that would be long with 11 and 13", |s| {
-        saved_from(s, Report::Long)
+    ("nothing but 11 or 13", |_, s| s.iter().all(|&x| is_flow(x))),
+    ("11 or 13 inside a pair", |_, s| behind_escape(s, true)),
+    ("7D, 11 or 13, flag", |_, s| behind_escape(s, false)),
+    (
+        "frames that would be bad checks with 11 and 13",
+        |check, s| saved_from(check, s, Report::Bad),
+    ),
+    ("frames that would be long with 11 and 13", |check, s| {
+        saved_from(check, s, Report::Long)
     }),
 ];
 const BEFORE: &str = "11 or 13 before the first flag";
@@ -101,7 +102,7 @@ pub fn came_up(levels: &[u8], tally: &mut Tally) {
 }
 
 /// Counts the ways in which flow control stands on a line: once for each segment.
-pub fn count(level: u8, line: &[u8], tally: &mut Tally) {
+pub fn count(level: u8, check: Check, line: &[u8], tally: &mut Tally) {
     let some = |octets: &[u8]| octets.iter().any(|&x| is_flow(x));
     let mut cut = qaft::cut(line);
     cut.closed.retain(|segment| some(segment));
@@ -111,8 +112,8 @@ pub fn count(level: u8, line: &[u8], tally: &mut Tally) {
             tally.count(BEFORE, some(cut.before).into());
             tally.count(AFTER, some(cut.after).into());
             for (name, is) in WAYS {
-                let times = cut.closed.iter().filter(|segment| is(segment)).count();
-                tally.count(name, times as u64);
+                let segments = cut.closed.iter().filter(|segment| is(check, segment));
+                tally.count(name, segments.count() as u64);
             }
         }
         _ => {}

@@ -3,6 +3,7 @@
 use super::tally::{hex, Out, Tally};
 use super::{flow, pairs};
 use crate::archive::kiss::{self as archive, RawReader};
+use second::check::Check;
 use second::kiss::reader::{self, State, MANY, STORE};
 use second::kiss::{self, Converted};
 use second::qaft;
@@ -219,7 +220,7 @@ fn qaft_capture(rng: &Rng) -> Vec<u8> {
         } else {
             rng.between(1, 20)
         };
-        let mut body = qaft::body(rng.below(2) as u8, &octets(rng, length));
+        let mut body = qaft::body(rng.below(2) as u8, Check::Sum, &octets(rng, length));
         if rng.once_in(4) {
             let i = rng.below(body.len());
             body[i] = rng.octet();
@@ -227,7 +228,7 @@ fn qaft_capture(rng: &Rng) -> Vec<u8> {
         match rng.below(16) {
             0 => body.clear(),
             1 => body.push(qaft::ESCAPE),
-            2 if rng.once_in(8) => body = pairs::near_limit(rng),
+            2 if rng.once_in(8) => body = pairs::near_limit(rng, Check::Sum),
             _ => {}
         }
         capture.extend(body);
@@ -240,8 +241,8 @@ fn qaft_capture(rng: &Rng) -> Vec<u8> {
 }
 
 fn from_qaft_one(rng: &Rng, level: u8, capture: &[u8], tally: &mut Tally) {
-    flow::count(level, capture, tally);
-    pairs::count(level, capture, tally);
+    flow::count(level, Check::Sum, capture, tally);
+    pairs::count(level, Check::Sum, capture, tally);
     let ways = [kiss::from_qaft, archive::from_qaft];
     convert_one(rng, level, capture, ways, tally);
 }
@@ -249,7 +250,7 @@ fn from_qaft_one(rng: &Rng, level: u8, capture: &[u8], tally: &mut Tally) {
 pub fn from_qaft(rng: &Rng, count: u64, tally: &mut Tally) {
     flow::came_up(&[0, 1], tally);
     pairs::came_up(&[0, 1], tally);
-    for segment in [pairs::each(), pairs::each_long(&pairs::PARTNERS)].concat() {
+    for segment in pairs::each_of_qaft() {
         let capture = [&[qaft::FLAG], &segment[..], &[qaft::FLAG]].concat();
         for level in [0, 1] {
             from_qaft_one(rng, level, &capture, tally);

@@ -3,6 +3,7 @@ use super::captures::{Framing, KISS, QAFT};
 use super::process::{by_datagrams, by_pipe, examples, program, run, Run};
 use super::tally::{hex, Tally};
 use super::{flow, pairs};
+use second::check::Check;
 use second::rng::Rng;
 use second::{kiss, listing, qaft};
 use std::fs::File;
@@ -48,11 +49,11 @@ pub fn count_reads(level: u8, portions: &[Vec<u8>], tally: &mut Tally) {
 
 /// The numbers of a capture's reports, and how flow control and pairs stand in it.
 pub fn count_qaft(level: u8, capture: &[u8], tally: &mut Tally) {
-    for report in &qaft::read_line(level, capture).reports {
+    for report in &qaft::read_line(level, Check::Sum, capture).reports {
         tally.number(report.number());
     }
-    flow::count(level, capture, tally);
-    pairs::count(level, capture, tally);
+    flow::count(level, Check::Sum, capture, tally);
+    pairs::count(level, Check::Sum, capture, tally);
 }
 
 /// The numbers of a capture's reports; KISS has no level.

@@ -1,9 +1,11 @@
 //! Odd escape pairs of change request 2026-04: put into lines, and the ways in which they stand there. A pair is good where the level
-//! makes it; a bad one's octet counts, sums and is stored, and its segment is reported by 16 unless a 7D is left over.
+//! makes it; a bad one's octet counts, is checked and stored, and its segment is reported by 16 unless a 7D is left over.
+use super::checks;
 use super::make::octets;
 use super::tally::Tally;
+use second::check::Check;
 use second::qaft::{self, Report, ESCAPE, FLAG, MAX_DATA};
-use second::reader::{self, State, MANY, STORE};
+use second::reader::{self, State};
 use second::rng::Rng;
 use std::ops::Range;
 
@@ -84,26 +86,27 @@ pub fn strewn(rng: &Rng, line: &[u8]) -> Vec<u8> {
 }
 
 /// A frame of the longest data, of some octets less or of one or two more, with a few pairs put in or none.
-pub fn near_limit(rng: &Rng) -> Vec<u8> {
+pub fn near_limit(rng: &Rng, check: Check) -> Vec<u8> {
     let data = octets(rng, rng.between(MAX_DATA - 2, MAX_DATA + 2));
-    let mut segment = qaft::body(rng.below(2) as u8, &data);
+    let mut segment = qaft::body(rng.below(2) as u8, check, &data);
     for _ in 0..rng.pick(&[0, 1, 1, 2]) {
         put_one(rng, &mut segment);
     }
     segment
 }
 
-/// Segments with 7D before every octet: alone, with the check octet that would make a frame, with a wrong one, with a 7D left over,
+/// Segments with 7D before every octet: alone, with the check that would make a frame, with a wrong one, with a 7D left over,
 /// behind an octet, and with flow control inside.
-pub fn each() -> Vec<Vec<u8>> {
+pub fn each(check: Check) -> Vec<Vec<u8>> {
     let forms = |x: u8| {
-        let check = |data: &[u8]| qaft::escaped(0, &[qaft::check(data)]);
-        let check_1 = check(&[x ^ 0x20]);
-        let check_2 = check(&[0x41, x ^ 0x20]);
+        let last = |data: &[u8]| qaft::escaped(0, &check.octets(data));
+        let check_1 = last(&[x ^ 0x20]);
+        let check_2 = last(&[0x41, x ^ 0x20]);
+        let wrong = vec![x; check.size()];
         [
             vec![ESCAPE, x],
             [&[ESCAPE, x], &check_1[..]].concat(),
-            vec![ESCAPE, x, x],
+            [&[ESCAPE, x], &wrong[..]].concat(),
             vec![ESCAPE, x, ESCAPE],
             [&[0x41, ESCAPE, x], &check_2[..]].concat(),
             [&[ESCAPE, 0x13, x], &check_1[..]].concat(),
@@ -114,25 +117,30 @@ pub fn each() -> Vec<Vec<u8>> {
 
 /// Segments whose last or last but one octet is that of 7D and a partner: around the last that is stored and the count that stands for
 /// all above.
-pub fn each_long(partners: &[u8]) -> Vec<Vec<u8>> {
+pub fn each_long(check: Check, partners: &[u8]) -> Vec<Vec<u8>> {
     let mut all = Vec::new();
     for &x in partners {
-        for before in [STORE - 2, STORE - 1, STORE, MANY] {
-            let mut segment = vec![0; before];
-            segment.extend([ESCAPE, x]);
-            all.push(segment.clone());
-            segment.extend(qaft::escaped(0, &[qaft::check(&[x ^ 0x20])]));
+        for before in MAX_DATA - 1..=check.many() {
+            let zeros = vec![0; before];
+            let segment = [&zeros[..], &[ESCAPE, x]].concat();
+            let last = check.octets(&[&zeros[..], &[x ^ 0x20]].concat());
+            all.push([&segment[..], &qaft::escaped(0, &last)].concat());
             all.push(segment);
         }
     }
     all
 }
 
-/// Some partners of every kind: a bad one, one of level 1, one of both levels, 7D itself, and flow control.
-pub const PARTNERS: [u8; 5] = [0x41, 0x31, 0x5E, ESCAPE, 0x11];
+/// QAFT's segments with 7D before every octet; the long ones with some partners of every kind: a bad one, one of level 1, one of both
+/// levels, 7D itself, and flow control.
+pub fn each_of_qaft() -> Vec<Vec<u8>> {
+    let partners = [0x41, 0x31, 0x5E, ESCAPE, 0x11];
+    [each(Check::Sum), each_long(Check::Sum, &partners)].concat()
+}
 
 /// What the pairs of a closed segment are.
 struct Pairs {
+    check: Check,
     octets: Vec<u8>,
     /// where among the octets those of good pairs stand, and of bad ones
     good: Vec<usize>,
@@ -143,8 +151,9 @@ struct Pairs {
 }
 
 impl Pairs {
-    fn new(level: u8, segment: &[u8]) -> Self {
+    fn new(level: u8, check: Check, segment: &[u8]) -> Self {
         let mut pairs = Pairs {
+            check,
             octets: Vec::with_capacity(segment.len()),
             good: Vec::new(),
             bad: Vec::new(),
@@ -176,11 +185,14 @@ impl Pairs {
 
     /// Of a length that a frame may have.
     fn fits(&self) -> bool {
-        !self.left_over && (2..=STORE).contains(&self.octets.len())
+        let (shortest, longest) = (1 + self.check.size(), self.check.longest());
+        !self.left_over && (shortest..=longest).contains(&self.octets.len())
     }
 
-    fn sums_to_0(&self) -> bool {
-        self.octets.iter().fold(0_u8, |sum, &x| sum.wrapping_add(x)) == 0
+    /// Of such a length, and whether the check is right.
+    fn fits_with(&self, right: bool) -> bool {
+        let left = checks::running(self.check, &self.octets);
+        self.fits() && right == (left == self.check.good())
     }
 
     /// How many of the octets at these places are 11 or 13.
@@ -192,34 +204,27 @@ impl Pairs {
 
 type Is = fn(&Pairs) -> bool;
 
-/// A name for each level.
-macro_rules! at_levels {
-    ($name:literal) => {
-        [concat!($name, " at level 0"), concat!($name, " at level 1")]
-    };
-}
-
 /// What has to come up at each level, of segments with a bad pair.
 const WAYS: [([&str; 2], Is); 8] = [
     (at_levels!("bad pair and a 7D left over"), |p| p.left_over),
     (at_levels!("bad pair in a long segment"), |p| {
-        !p.left_over && p.octets.len() > STORE
+        !p.left_over && p.octets.len() > p.check.longest()
     }),
     (
-        at_levels!("bad pair behind 2,561 octets and none before"),
-        |p| !p.left_over && p.bad[0] >= STORE,
+        at_levels!("bad pair behind all that is stored and none before"),
+        |p| !p.left_over && p.bad[0] >= p.check.longest(),
     ),
-    (at_levels!("bad pair as the last of 2,561 octets"), |p| {
-        p.fits() && p.bad == [STORE - 1]
+    (at_levels!("bad pair as the last that is stored"), |p| {
+        p.fits() && p.bad == [p.check.longest() - 1]
     }),
     (at_levels!("bad pair alone"), |p| {
         !p.left_over && p.octets.len() == 1
     }),
     (at_levels!("bad pair and a wrong check"), |p| {
-        p.fits() && !p.sums_to_0()
+        p.fits_with(false)
     }),
     (at_levels!("bad pair in what would be a frame"), |p| {
-        p.fits() && p.sums_to_0()
+        p.fits_with(true)
     }),
     (at_levels!("7D 7D"), |p| {
         p.bad.iter().any(|&i| p.octets[i] == ESCAPE ^ 0x20)
@@ -248,15 +253,15 @@ pub fn came_up(levels: &[u8], tally: &mut Tally) {
 }
 
 /// Counts the ways in which pairs stand on a line: once for each segment.
-pub fn count(level: u8, line: &[u8], tally: &mut Tally) {
+pub fn count(level: u8, check: Check, line: &[u8], tally: &mut Tally) {
     if level > 1 {
         return;
     }
     let at = usize::from(level);
     let segments = qaft::cut(line).closed.into_iter();
     for segment in segments.filter(|segment| segment.contains(&ESCAPE)) {
-        let pairs = Pairs::new(level, segment);
-        let report = qaft::report(level, segment);
+        let pairs = Pairs::new(level, check, segment);
+        let report = qaft::report(level, check, segment);
         let frame = matches!(report, Some(Report::Frame(_)));
         let other = match level {
             0 => !pairs.bad.is_empty() && pairs.flow_control(&pairs.bad) == pairs.bad.len(),
@@ -276,11 +281,11 @@ pub fn count(level: u8, line: &[u8], tally: &mut Tally) {
     }
 }
 
-/// How many of a line's portions end inside a bad pair, where flow control may stand too.
+/// How many of a QAFT line's portions end inside a bad pair, where flow control may stand too.
 pub fn parted_by_portions(level: u8, portions: &[Vec<u8>]) -> u64 {
     let line = portions.concat();
-    let mut store = vec![0; STORE];
-    let (mut now, mut at) = (State::fresh(level), 0);
+    let mut store = vec![0; Check::Sum.longest()];
+    let (mut now, mut at) = (State::fresh(level, Check::Sum.kind()), 0);
     let mut parted = 0;
     for portion in portions {
         let end = at + portion.len();

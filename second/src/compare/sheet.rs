@@ -10,6 +10,7 @@ pub use program::{compare as program, NUMBERS as RUN_NUMBERS};
 use super::tally::{hex, Tally};
 use super::{flow, pairs, FULL};
 use crate::archive::sheet as archive;
+use second::check::Check;
 use second::rng::Rng;
 use second::sheet::{self, Counted, Record, COUNTS, LINES, OCTETS};
 
@@ -79,8 +80,8 @@ impl Call<'_> {
     /// Counts the second program's answer, and how it came about.
     fn count(&self, number: u8, later: &[Record], tally: &mut Tally) {
         tally.number(number);
-        flow::count(self.level, self.capture, tally);
-        pairs::count(self.level, self.capture, tally);
+        flow::count(self.level, Check::Sum, self.capture, tally);
+        pairs::count(self.level, Check::Sum, self.capture, tally);
         let more = sheet::counts(self.level, self.capture).in_order();
         match number {
             0 => {

@@ -15,7 +15,7 @@ const PAPER: [u8; 13] = [
 fn frames(all: &[&[u8]]) -> Vec<u8> {
     let mut line = vec![FLAG];
     for data in all {
-        line.extend(qaft::body(0, data));
+        line.extend(qaft::body(0, Check::Sum, data));
         line.push(FLAG);
     }
     line

@@ -1,9 +1,13 @@
 //! Cases of change request 2026-04: a pair is good only if it stands for an octet that the level escapes.
-use super::hex;
+use super::{hex, ways};
+use crate::check::Check;
 use crate::kiss;
 use crate::listing::listing;
 use crate::qaft::{self, Report, ESCAPE, FLAG};
-use crate::reader::{read, Answer, State, MANY, STORE};
+use crate::reader::{read, Answer, State};
+
+const STORE: usize = Check::Sum.longest();
+const MANY: usize = Check::Sum.many();
 
 fn frame(data: &str) -> Option<Report> {
     Some(Report::Frame(hex(data)))
@@ -13,8 +17,9 @@ fn frame(data: &str) -> Option<Report> {
 #[test]
 fn segments() {
     let case = |segment: &str, level_0, level_1| {
-        assert_eq!(qaft::report(0, &hex(segment)), level_0, "{segment}");
-        assert_eq!(qaft::report(1, &hex(segment)), level_1, "{segment}");
+        let report = |level| qaft::report(level, Check::Sum, &hex(segment));
+        assert_eq!(report(0), level_0, "{segment}");
+        assert_eq!(report(1), level_1, "{segment}");
     };
     let both = |segment: &str, report: Option<Report>| case(segment, report.clone(), report);
     let pair = Some(Report::Pair);
@@ -46,16 +51,17 @@ fn segments() {
 fn every_partner() {
     for x in (0..=255).filter(|&x| x != FLAG) {
         let octet = x ^ 0x20;
-        for level in [0, 1] {
-            let check = qaft::escaped(level, &[qaft::check(&[octet])]);
-            let segment = [&[ESCAPE, x], &check[..]].concat();
+        for (level, check) in ways() {
+            let last = qaft::escaped(level, &check.octets(&[octet]));
+            let segment = [&[ESCAPE, x], &last[..]].concat();
             let good = matches!((level, x), (_, 0x5D | 0x5E) | (1, 0x31 | 0x33));
             // at level 1 a 7D before 11 or 13 still waits, and takes the check octet for its partner
             let expected = match good {
                 true => Report::Frame(vec![octet]),
                 false => Report::Pair,
             };
-            assert_eq!(qaft::report(level, &segment), Some(expected), "{x:X}");
+            let report = qaft::report(level, check, &segment);
+            assert_eq!(report, Some(expected), "{x:X}");
         }
     }
 }
@@ -63,14 +69,14 @@ fn every_partner() {
 /// Behind 2,560 octets and more: a bad pair is judged before long, also where its octet is not stored.
 #[test]
 fn long_segments() {
-    for level in [0, 1] {
-        for before in [2_559, 2_560, 2_561, 5_000] {
+    for (level, check) in ways() {
+        for before in [2_559, 2_560, 2_561, 2_562, 5_000] {
             let segment = |end: &str| [vec![0; before], hex(end)].concat();
-            let report = |end: &str| qaft::report(level, &segment(end));
+            let report = |end: &str| qaft::report(level, check, &segment(end));
             assert_eq!(report("7D 41"), Some(Report::Pair));
             assert_eq!(report("7D 41 7D"), Some(Report::Aborted));
-            let good = match before {
-                2_559 | 2_560 => Report::Bad,
+            let good = match (before, check) {
+                (2_559 | 2_560, _) | (2_561, Check::Fcs) => Report::Bad,
                 _ => Report::Long,
             };
             assert_eq!(report("7D 5E"), Some(good));
@@ -81,7 +87,7 @@ fn long_segments() {
 fn behind_flag(level: u8) -> State {
     State {
         flag: true,
-        ..State::fresh(level)
+        ..State::fresh(level, 0)
     }
 }
 
@@ -95,10 +101,10 @@ fn call(state: State, portion: &str) -> (State, Answer, Vec<u8>) {
 /// The octet counts, sums and is stored; the mark stays until the flag, and is gone behind it.
 #[test]
 fn reader_marks() {
-    let (next, answer, store) = call(State::fresh(0), "7E 00 7D 41");
+    let (next, answer, store) = call(State::fresh(0, 0), "7E 00 7D 41");
     let marked = State {
         count: 2,
-        sum: 0x61,
+        check: 0x61,
         bad_pair: true,
         ..behind_flag(0)
     };
@@ -135,7 +141,7 @@ fn pair_across_portions() {
         (1, "11 13 51", 16),
         (1, "41", 16),
     ] {
-        let (pending, _, _) = call(State::fresh(level), "7E 7D");
+        let (pending, _, _) = call(State::fresh(level, 0), "7E 7D");
         assert!(pending.pending && !pending.bad_pair);
         let (next, answer, _) = call(pending, partner);
         assert_eq!((next.bad_pair, answer.number), (number == 16, 15));
@@ -154,7 +160,7 @@ fn mark_at_count_0() {
         pending: true,
         ..behind_flag(1)
     };
-    for state in [State::fresh(0), behind_flag(0), waiting] {
+    for state in [State::fresh(0, 0), behind_flag(0), waiting] {
         let (next, answer, store) = call(marked(state), "7E 41");
         assert_eq!((next, answer.number, answer.taken), (marked(state), 5, 0));
         assert_eq!(store, [0xAA; STORE]);
@@ -167,7 +173,7 @@ fn mark_at_count_0() {
     assert_eq!(call(marked(one), "").1.number, 15);
     let before = State {
         count: 1,
-        ..State::fresh(0)
+        ..State::fresh(0, 0)
     };
     assert_eq!(call(marked(before), "").1.number, 5);
 }
@@ -194,26 +200,32 @@ fn conversions() {
 }
 
 /// What reads as a frame is, skipped octets set aside, the body that the writer makes of it: every segment of up to six octets of
-/// some that bear on it.
-#[test]
-fn one_frame_one_body() {
-    let alphabet = [ESCAPE, 0x5D, 0x5E, 0x31, 0x11, 0x83, 0x82, 0xEF, 0x41];
+/// some that bear on it. How many frames there were at each level.
+fn bodies(check: Check, alphabet: [u8; 9]) -> [usize; 2] {
     let mut frames = [0; 2];
     for size in 1..=6 {
-        for mut n in 0..9_usize.pow(size) {
-            let mut segment = Vec::new();
-            for _ in 0..size {
-                segment.push(alphabet[n % 9]);
-                n /= 9;
-            }
+        for n in 0..9_usize.pow(size) {
+            let octet = |place| alphabet[n / 9_usize.pow(place) % 9];
+            let segment: Vec<u8> = (0..size).map(octet).collect();
             for level in [0, 1] {
-                if let Some(Report::Frame(data)) = qaft::report(level, &segment) {
+                if let Some(Report::Frame(data)) = qaft::report(level, check, &segment) {
                     let kept = qaft::unskipped(level, &segment);
-                    assert_eq!(kept, qaft::body(level, &data));
+                    assert_eq!(kept, qaft::body(level, check, &data));
                     frames[usize::from(level)] += 1;
                 }
             }
         }
     }
-    assert!(frames[0] > 100 && frames[1] > frames[0] / 2, "{frames:?}");
+    frames
+}
+
+#[test]
+fn one_frame_one_body() {
+    let octets = [ESCAPE, 0x5D, 0x5E, 0x31, 0x11, 0x83, 0x82, 0xEF, 0x41];
+    let [level_0, level_1] = bodies(Check::Sum, octets);
+    assert!(level_0 > 100 && level_1 > level_0 / 2);
+    // 2A 20 7D 5E is a frame at both levels, 86 46 11 at level 0, 86 46 7D 31 at level 1
+    let octets = [ESCAPE, 0x5E, 0x31, 0x11, 0x13, 0x2A, 0x20, 0x86, 0x46];
+    let [level_0, level_1] = bodies(Check::Fcs, octets);
+    assert!(level_0 > 1 && level_1 > 50, "{level_0}, {level_1}");
 }

@@ -3,16 +3,14 @@
 use super::super::flow::{self, is_flow};
 use super::super::tally::{hex, Tally};
 use crate::archive::{self, RawReader};
-use second::qaft::{self, Report, FLAG, MAX_FRAME};
-use second::reader::{Answer, STORE};
+use second::check::Check;
+use second::qaft::{self, Report, FLAG};
+use second::reader::{Answer, State};
 use second::rng::Rng;
 
 /// What has to come up.
 const WITH_AND_WITHOUT: &str = "reports with and without 11 and 13";
-const FRAMES: [&str; 2] = [
-    "frames written again at level 0",
-    "frames written again at level 1",
-];
+const FRAMES: [&str; 2] = at_levels!("frames written again");
 
 pub fn came_up(tally: &mut Tally) {
     for name in [WITH_AND_WITHOUT, FRAMES[0], FRAMES[1]] {
@@ -21,15 +19,16 @@ pub fn came_up(tally: &mut Tally) {
 }
 
 /// What the archive makes of a line: its reports with the data of frames, and the state and the buffer at the end.
-struct Line {
-    reports: Vec<(u8, Vec<u8>)>,
+pub struct Line {
+    pub reports: Vec<(u8, Vec<u8>)>,
     end: (RawReader, Vec<u8>),
 }
 
 /// A line in portions, by the archive.
-fn by_archive(rng: &Rng, level: u8, line: &[u8], tally: &mut Tally) -> Line {
+pub fn by_archive(rng: &Rng, level: u8, check: Check, line: &[u8], tally: &mut Tally) -> Line {
     let most = rng.pick(&[1, 3, 100, 9_000]);
-    let (mut now, mut store) = (archive::qaft_fresh(level), vec![0xAA; STORE]);
+    let mut now = archive::qaft_fresh(level, check.kind());
+    let mut store = vec![0xAA; check.longest()];
     let mut reports = Vec::new();
     let mut at = 0;
     while at < line.len() {
@@ -40,8 +39,12 @@ fn by_archive(rng: &Rng, level: u8, line: &[u8], tally: &mut Tally) -> Line {
         if answer.number != 15 {
             reports.push((answer.number, store[..answer.length].to_vec()));
         }
+        if answer.taken == 0 {
+            // a refusal: it would be the answer for ever
+            break;
+        }
         if answer.number == 10 {
-            exact(level, &line[..at], &store[..answer.length], tally);
+            exact(level, check, &line[..at], &store[..answer.length], tally);
         }
     }
     let end = (now, store);
@@ -50,7 +53,7 @@ fn by_archive(rng: &Rng, level: u8, line: &[u8], tally: &mut Tally) -> Line {
 
 /// Request 2026-04: the segment that the last octet closes was reported as a frame, so it is, flow control at level 1 set aside, what
 /// the archive's writer makes of the frame's data.
-fn exact(level: u8, line: &[u8], data: &[u8], tally: &mut Tally) {
+fn exact(level: u8, check: Check, line: &[u8], data: &[u8], tally: &mut Tally) {
     let open = &line[..line.len() - 1];
     let segment = open.rsplit(|&x| x == FLAG).next().unwrap_or_default();
     let mut body: Vec<u8> = match level {
@@ -58,8 +61,8 @@ fn exact(level: u8, line: &[u8], data: &[u8], tally: &mut Tally) {
         _ => segment.iter().copied().filter(|&x| !is_flow(x)).collect(),
     };
     body.push(FLAG);
-    let mut out = [0; MAX_FRAME];
-    let written = archive::qaft_write(level, true, data, &mut out);
+    let mut out = vec![0; check.max_frame()];
+    let written = archive::qaft_write(level, check.kind(), true, data, &mut out);
     let at = usize::from(level);
     tally.count(FRAMES[at], 1);
     let claims = [
@@ -71,15 +74,18 @@ fn exact(level: u8, line: &[u8], data: &[u8], tally: &mut Tally) {
 }
 
 /// The same of a call, where the frame's segment stands whole in the portion, and so its data in the buffer.
-pub fn frame(level: u8, portion: &[u8], answer: Answer, store: &[u8], tally: &mut Tally) {
+pub fn frame(from: State, portion: &[u8], answer: Answer, store: &[u8], tally: &mut Tally) {
+    let (10, Some(check)) = (answer.number, Check::of(from.kind)) else {
+        return;
+    };
     let taken = &portion[..answer.taken];
-    if answer.number == 10 && taken.iter().filter(|&&x| x == FLAG).count() > 1 {
-        exact(level, taken, &store[..answer.length], tally);
+    if taken.iter().filter(|&&x| x == FLAG).count() > 1 {
+        exact(from.level, check, taken, &store[..answer.length], tally);
     }
 }
 
 /// A whole line: the archive's reports in portions, and the second program's on the whole.
-pub fn whole(rng: &Rng, level: u8, line: &[u8], tally: &mut Tally) {
+pub fn whole(rng: &Rng, level: u8, check: Check, line: &[u8], tally: &mut Tally) {
     let numbered = |report: Report| {
         let number = report.number();
         match report {
@@ -87,9 +93,9 @@ pub fn whole(rng: &Rng, level: u8, line: &[u8], tally: &mut Tally) {
             _ => (number, Vec::new()),
         }
     };
-    let reports = qaft::read_line(level, line).reports.into_iter();
+    let reports = qaft::read_line(level, check, line).reports.into_iter();
     let ours: Vec<(u8, Vec<u8>)> = reports.map(numbered).collect();
-    let archive = by_archive(rng, level, line, tally).reports;
+    let archive = by_archive(rng, level, check, line, tally).reports;
     for (number, _) in &ours {
         tally.number(*number);
     }
@@ -99,20 +105,20 @@ pub fn whole(rng: &Rng, level: u8, line: &[u8], tally: &mut Tally) {
 }
 
 /// Every segment of so many octets, of every value, at both levels.
-pub fn each_segment(rng: &Rng, size: u32, tally: &mut Tally) {
+pub fn each_segment(rng: &Rng, check: Check, size: u32, tally: &mut Tally) {
     for n in 0..1_u32 << (8 * size) {
         let octets = n.to_le_bytes();
         let line = [&[FLAG], &octets[..size as usize], &[FLAG]].concat();
         for level in [0, 1] {
-            whole(rng, level, &line, tally);
+            whole(rng, level, check, &line, tally);
         }
     }
 }
 
 /// Demand 2 by request 2026-02, of the archive alone: a level 1 line, and the same with flow control put in, each cut in its own way.
-pub fn same_reports(rng: &Rng, line: &[u8], tally: &mut Tally) {
-    let without = by_archive(rng, 1, line, tally);
-    let with = by_archive(rng, 1, &flow::strewn(rng, line), tally);
+pub fn same_reports(rng: &Rng, check: Check, line: &[u8], tally: &mut Tally) {
+    let without = by_archive(rng, 1, check, line, tally);
+    let with = by_archive(rng, 1, check, &flow::strewn(rng, line), tally);
     tally.count(WITH_AND_WITHOUT, without.reports.len() as u64);
     tally.claim(
         "11 and 13 put into a level 1 line change no report",

@@ -2,6 +2,7 @@
 use super::super::flow;
 use super::super::process::{examples, place};
 use super::make;
+use second::check::Check;
 use second::qaft::{self, ESCAPE, FLAG, MAX_DATA};
 use second::rng::Rng;
 use std::fs::{self, File};
@@ -160,7 +161,7 @@ pub fn across_reads(rng: &Rng, level: u8, files: &Files) -> Vec<Entry> {
         0 => body.to_vec(),
         _ => body.iter().flat_map(|&x| [0x13, x, 0x11]).collect(),
     };
-    let body = parted(&qaft::body(level, &[0x43, FLAG, 0x41]));
+    let body = parted(&qaft::body(level, Check::Sum, &[0x43, FLAG, 0x41]));
     let odd = parted(&[0x44, ESCAPE, 0x61, 0x7B]);
     let frames = [&[FLAG], &body[..], &[FLAG], &odd, &[FLAG], &body, &[FLAG]].concat();
     let entry = |i: usize| {
@@ -178,7 +179,7 @@ pub fn across_reads(rng: &Rng, level: u8, files: &Files) -> Vec<Entry> {
 /// 7D before every octet, and before some around the limits: all in one file, and so in several reads. And a frame of the longest data
 /// with flow control behind it, which is one at level 1 alone.
 pub fn at_limits(files: &Files) -> Vec<Entry> {
-    let body = qaft::body(1, &[0x43; MAX_DATA]);
+    let body = qaft::body(1, Check::Sum, &[0x43; MAX_DATA]);
     let frame = [&[FLAG], &body[..], &[0x11, FLAG]].concat();
     vec![
         files.entry(0, 7, make::each_pair().concat()),

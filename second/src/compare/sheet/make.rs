@@ -1,6 +1,7 @@
 //! Makes captures of DLC packets, damaged ones and noise, and records with counts of every size.
 use super::super::make::{each, octets};
 use super::super::pairs;
+use second::check::Check;
 use second::link::{DACK, DATA, PAYLOAD, RESET, RESET_ACK};
 use second::qaft::{self, ESCAPE, FLAG, MAX_DATA};
 use second::rng::Rng;
@@ -45,7 +46,7 @@ fn damage(rng: &Rng, piece: &mut Vec<u8>) {
 
 /// A piece of a capture: a frame and its closing flag, a damaged one, one of another report, flags, or octets without a rule.
 fn piece(rng: &Rng, last: &mut u8) -> Vec<u8> {
-    let mut piece = qaft::body(rng.below(2) as u8, &data(rng, last));
+    let mut piece = qaft::body(rng.below(2) as u8, Check::Sum, &data(rng, last));
     match rng.below(24) {
         0 => piece.push(ESCAPE),
         1 => piece.truncate(1),
@@ -53,13 +54,14 @@ fn piece(rng: &Rng, last: &mut u8) -> Vec<u8> {
         3 => piece = octets(rng, rng.below(8)),
         4..=6 => damage(rng, &mut piece),
         9..=11 => piece = pairs::strewn(rng, &piece),
-        12 if rng.once_in(24) => piece = pairs::near_limit(rng),
+        12 if rng.once_in(24) => piece = pairs::near_limit(rng, Check::Sum),
         7 if rng.once_in(24) => {
             piece = rng.octets(rng.pick(&[MAX_DATA + 1, MAX_DATA + 2, 2 * MAX_DATA]));
         }
         // a frame of the longest data, or of one octet more
         8 if rng.once_in(24) => {
-            piece = qaft::body(0, &octets(rng, rng.between(MAX_DATA, MAX_DATA + 1)));
+            let data = octets(rng, rng.between(MAX_DATA, MAX_DATA + 1));
+            piece = qaft::body(0, Check::Sum, &data);
         }
         _ => {}
     }
@@ -100,7 +102,7 @@ pub fn each_short() -> Vec<Vec<u8>> {
 /// octet more, DACK, RESET, each report that is no frame but a long one, a DATA with a bad pair in it, and at level 1 one with flow
 /// control.
 pub fn each_sequence() -> Vec<Vec<u8>> {
-    let frame = |data: &[u8]| qaft::body(0, data);
+    let frame = |data: &[u8]| qaft::body(0, Check::Sum, data);
     let segments = [
         frame(&[DATA | 3]),
         frame(&[DATA | 4, 0x41]),
@@ -128,14 +130,13 @@ pub fn each_sequence() -> Vec<Vec<u8>> {
 
 /// 7D before every octet, in short segments, and before some around the limits.
 pub fn each_pair() -> Vec<Vec<u8>> {
-    let segments = [pairs::each(), pairs::each_long(&pairs::PARTNERS)].concat();
     let capture = |segment: &Vec<u8>| [&[FLAG], &segment[..], &[FLAG]].concat();
-    segments.iter().map(capture).collect()
+    pairs::each_of_qaft().iter().map(capture).collect()
 }
 
 /// A capture of which every count is over 0 at level 1.
 pub fn each_count() -> Vec<u8> {
-    let frame = |data: &[u8]| [&qaft::body(0, data)[..], &[FLAG]].concat();
+    let frame = |data: &[u8]| [&qaft::body(0, Check::Sum, data)[..], &[FLAG]].concat();
     let (data, dack) = (frame(&[DATA]), frame(&[DACK]));
     let others = [0x41, 0xBE, FLAG, 0x41, FLAG, 0x41, ESCAPE, FLAG];
     let pair = [ESCAPE, 0x41, 0x9F, FLAG];

@@ -7,6 +7,7 @@ use super::files::{
     across_reads, all_examples, at_limits, each_refusal, set, Entry, Files, PIPE, READ,
 };
 use super::FULL;
+use second::check::Check;
 use second::qaft::FLAG;
 use second::rng::Rng;
 use second::sheet::{self, COUNTS, LINES};
@@ -58,8 +59,8 @@ fn expected(level: u8, entries: &[Entry], tally: &mut Tally) -> Seen {
                 tally.count(SAME_LINE, again.into());
                 tally.count(SEVERAL_READS, (capture.len() > READ).into());
                 tally.count(THROUGH_PIPE, (entry.file == PIPE).into());
-                flow::count(level, capture, tally);
-                pairs::count(level, capture, tally);
+                flow::count(level, Check::Sum, capture, tally);
+                pairs::count(level, Check::Sum, capture, tally);
                 let number = sheet::tally(level, capture, line, &mut table);
                 tally.number(number);
                 number == 0
