@@ -1,12 +1,14 @@
 /*
- * Lines that are QAFT and PPP at once (lines.h), read by the library and by lwIP (lwip_end.h), which skips what its map (ACCM) names.
+ * Lines that are ours and PPP's at once (lines.h), read by the library and by lwIP (lwip_end.h), which skips what its map (ACCM) names.
  *
- *   accm lines LEVEL ACCM COUNT   draws so many lines and hands each to both: prints what they had, or the first one of which something
- *                                 else came than went in
- *   accm frame LENGTH             a frame of so many octets, 8 or more, good for both, as lwIP writes it with the map of level 1
- *   accm ours LEVEL LINE          what ours reports of a line in hexadecimal digits; a good frame stands behind it and is not told
- *   accm lwip ACCM LINE           what lwIP hands on of the same (no address, control and check sequence), and what it counts
- *   accm version                  of the library
+ *   accm KIND lines LEVEL ACCM COUNT   draws so many lines and hands each to both: prints what they had, or the first one of which
+ *                                      something else came than went in
+ *   accm KIND frame LENGTH             a frame of so many octets, 8 or more, good for both, as lwIP writes it with the map of level 1
+ *   accm KIND ours LEVEL LINE          what ours reports of a line in hexadecimal digits; a good frame stands behind it and is not told
+ *   accm KIND lwip ACCM LINE           what lwIP hands on of the same (no address, control and check sequence), and what it counts
+ *   accm KIND version                  of the library
+ *
+ * KIND is the check kind of ours, for all that is done.
  */
 #include "lines.h"
 
@@ -15,26 +17,27 @@
 #include <stdlib.h>
 #include <string.h>
 
+static uint8_t check_kind;
+
 /* What gets our reports: of a frame its data and check. */
 typedef void reported(uint8_t number, const uint8_t *frame, size_t length);
 
 /* Hands a line to our reader in portions of up to `most` octets; how many they were. */
 static size_t read_ours(uint8_t level, const octets *line, size_t most, reported *report)
 {
-    static uint8_t buffer[HASFANDUR_QAFT_MAX_SEGMENT];
-    hasfandur_qaft_reader reader = hasfandur_qaft_fresh(level);
+    static uint8_t buffer[HASFANDUR_QAFT_FCS_MAX_SEGMENT];
+    hasfandur_qaft_reader reader = hasfandur_qaft_fresh(level, check_kind);
     size_t portions = 0;
     for (size_t at = 0, end = 0; at < line->length;) {
         if (at == end) {
-            size_t portion = 1 + draw(most), left = line->length - at;
-            end += portion < left ? portion : left;
+            end += draw_portion(most, line->length - at);
             portions++;
         }
         hasfandur_qaft_answer a = hasfandur_qaft_read(reader, line->at + at, end - at, buffer, sizeof buffer);
         reader = a.reader;
         at += a.taken;
         if (a.number != HASFANDUR_QAFT_USED_UP) {
-            report(a.number, buffer, a.number == HASFANDUR_QAFT_FRAME ? a.length + 1 : 0);
+            report(a.number, buffer, a.number == HASFANDUR_QAFT_FRAME ? a.length + check_length(check_kind) : 0);
         }
         if (a.number < HASFANDUR_QAFT_FRAME) {
             break;
@@ -48,8 +51,7 @@ static size_t read_theirs(const octets *line, size_t most)
 {
     size_t portions = 0;
     for (size_t at = 0; at < line->length; portions++) {
-        size_t portion = 1 + draw(most), left = line->length - at;
-        portion = portion < left ? portion : left;
+        size_t portion = draw_portion(most, line->length - at);
         lwip_read(line->at + at, portion);
         at += portion;
     }
@@ -69,20 +71,9 @@ static void keep_ours(uint8_t number, const uint8_t *frame, size_t length)
     }
 }
 
-/* With what lwIP took away again: address and control, and the check sequence, which it found to be this. */
 static void keep_theirs(const uint8_t *octets, size_t length)
 {
-    static uint8_t frame[1 << 16] = {0xFF, 0x03};
-    memcpy(frame + 2, octets, length);
-    uint16_t sequence = (uint16_t)~sequence_of(frame, length + 2);
-    frame[length + 2] = (uint8_t)sequence;
-    frame[length + 3] = (uint8_t)(sequence >> 8);
-    append_frame(&their_frames, frame, length + 4);
-}
-
-static bool same(const octets *a, const octets *b)
-{
-    return a->length == b->length && memcmp(a->at, b->at, a->length) == 0;
+    append_frame(&their_frames, octets, length);
 }
 
 /* What of a line is not as it was to be; nothing where all is. */
@@ -90,7 +81,7 @@ static const char *other(lwip_counts got, lwip_counts wanted)
 {
     return !same(&our_numbers, &put_in.numbers)   ? "reports of ours"
            : !same(&our_frames, &put_in.frames)   ? "frames of ours"
-           : !same(&their_frames, &put_in.frames) ? "frames of lwIP"
+           : !same(&their_frames, &put_in.handed) ? "frames of lwIP"
            : got.chkerr != wanted.chkerr || got.lenerr != wanted.lenerr || got.memerr != 0 || got.drop != wanted.chkerr + wanted.lenerr
                ? "counts of lwIP"
                : NULL;
@@ -108,9 +99,11 @@ static void print_line(size_t number, const char *what)
 static void print_totals(uint8_t level, lwip_counts all)
 {
     const totals *t = &total;
-    printf("  frames that both took: %" PRIu64 ", of which %" PRIu64 " have 2,561 octets\n", t->frames, t->longest);
-    printf("  segments that both refused: %" PRIu64 " spoiled (ours 14), %" PRIu64 " cut by 7D (ours 11)\n", t->spoiled, t->cut);
-    printf("  lwIP counts of these: chkerr %u, lenerr %u, nothing %" PRIu64 "\n", all.chkerr, all.lenerr, t->spoiled + t->cut - all.drop);
+    uint64_t refused = t->spoiled + t->shorts + t->cut;
+    printf("  frames that both took: %" PRIu64 ", of which %" PRIu64 " have %zu octets\n", t->frames, t->longest, longest(check_kind));
+    printf("  segments that both refused: %" PRIu64 " spoiled (ours 14), %" PRIu64 " short (ours 13), %" PRIu64 " cut by 7D (ours 11)\n",
+           t->spoiled, t->shorts, t->cut);
+    printf("  lwIP counts of these: chkerr %u, lenerr %u, nothing %" PRIu64 "\n", all.chkerr, all.lenerr, refused - all.drop);
     printf("  segments of which neither says anything: %" PRIu64 ", of which %" PRIu64 " are raw 11 and 13 alone\n", t->empty, t->skipped);
     if (level == 1) {
         printf("  raw 11 and 13 put in before the first flag: %" PRIu64 ", behind 7D: %" PRIu64 ", elsewhere in segments: %" PRIu64
@@ -127,7 +120,7 @@ static int compare_lines(uint8_t level, uint32_t accm, size_t count)
     for (size_t i = 1; i <= count; i++) {
         our_frames.length = our_numbers.length = their_frames.length = 0;
         lwip_open(accm, keep_theirs);
-        draw_line(level, &put_in);
+        draw_line(level, check_kind, LWIP, &put_in);
         ours += read_ours(level, &put_in.line, most[draw(4)], keep_ours);
         theirs += read_theirs(&put_in.line, most[draw(4)]);
         lwip_counts dropped = lwip_dropped();
@@ -221,9 +214,9 @@ static void print_frame(size_t length)
     static uint8_t frame[1 << 15], line[1 << 16];
     memset(frame, 0x41, sizeof frame);
     memcpy(frame, marker, 4);
-    complete(frame, length, 0x4141);
+    complete(check_kind, frame, length, 0x4141);
     lwip_open(0x000A0000, NULL);
-    length = lwip_write(false, 0xC021, frame + 4, length - SHORTEST, line);
+    length = lwip_write(false, frame, length - 2, line);
     for (size_t i = 0; i < length; i++) {
         printf("%02X", line[i]);
     }
@@ -253,16 +246,18 @@ static void tell_line(bool ours, unsigned long number, const char *digits)
 
 int main(int argc, char **argv)
 {
-    if (argc == 2 && strcmp(argv[1], "version") == 0) {
+    const char *what = argc < 3 ? "" : argv[2];
+    check_kind = (uint8_t)(argc < 2 ? 0 : atoi(argv[1]));
+    if (argc == 3 && strcmp(what, "version") == 0) {
         printf("%s\n", HASFANDUR_VERSION);
-    } else if (argc == 5 && strcmp(argv[1], "lines") == 0) {
-        return compare_lines((uint8_t)atoi(argv[2]), (uint32_t)strtoul(argv[3], NULL, 16), strtoul(argv[4], NULL, 10));
-    } else if (argc == 3 && strcmp(argv[1], "frame") == 0) {
-        print_frame(strtoul(argv[2], NULL, 10));
-    } else if (argc == 4 && (strcmp(argv[1], "ours") == 0 || strcmp(argv[1], "lwip") == 0)) {
-        tell_line(argv[1][0] == 'o', strtoul(argv[2], NULL, 16), argv[3]);
+    } else if (argc == 6 && strcmp(what, "lines") == 0) {
+        return compare_lines((uint8_t)atoi(argv[3]), (uint32_t)strtoul(argv[4], NULL, 16), strtoul(argv[5], NULL, 10));
+    } else if (argc == 4 && strcmp(what, "frame") == 0) {
+        print_frame(strtoul(argv[3], NULL, 10));
+    } else if (argc == 5 && (strcmp(what, "ours") == 0 || strcmp(what, "lwip") == 0)) {
+        tell_line(*what == 'o', strtoul(argv[3], NULL, 16), argv[4]);
     } else {
-        fprintf(stderr, "usage: accm lines LEVEL ACCM COUNT | frame LENGTH | ours LEVEL LINE | lwip ACCM LINE | version\n");
+        fprintf(stderr, "usage: accm KIND lines LEVEL ACCM COUNT | frame LENGTH | ours LEVEL LINE | lwip ACCM LINE | version\n");
         return 2;
     }
     return 0;

@@ -96,15 +96,31 @@ lwip_counts lwip_dropped(void)
     return (lwip_counts){l->chkerr, l->lenerr, l->memerr, l->drop};
 }
 
-size_t lwip_write(int at_flag, uint16_t protocol, const uint8_t *information, size_t length, uint8_t *out)
+/* A buffer of these octets, for the next frame to be written: with a flag before it where the line was idle. */
+static struct pbuf *to_write(int at_flag, const uint8_t *octets, size_t length, uint8_t *out)
 {
     struct pbuf *p = pbuf_alloc(PBUF_RAW, (u16_t)length, PBUF_RAM);
-    if (p == NULL || pbuf_take(p, information, (u16_t)length) != ERR_OK) {
+    if (p == NULL || pbuf_take(p, octets, (u16_t)length) != ERR_OK) {
         abort();
     }
     written = out;
     written_length = 0;
     now += at_flag ? 0 : PPP_MAXIDLEFLAG;
+    return p;
+}
+
+/* pppos frees the buffer that it writes so. */
+size_t lwip_write(int at_flag, const uint8_t *octets, size_t length, uint8_t *out)
+{
+    if (serial.link_cb->write(&serial, serial.link_ctx_cb, to_write(at_flag, octets, length, out)) != ERR_OK) {
+        abort();
+    }
+    return written_length;
+}
+
+size_t lwip_write_packet(int at_flag, uint16_t protocol, const uint8_t *information, size_t length, uint8_t *out)
+{
+    struct pbuf *p = to_write(at_flag, information, length, out);
     if (serial.link_cb->netif_output(&serial, serial.link_ctx_cb, p, protocol) != ERR_OK) {
         abort();
     }

@@ -18,5 +18,7 @@ void lwip_read(const uint8_t *chunk, size_t length);
 /* What was dropped since the line was opened. */
 lwip_counts lwip_dropped(void);
 
-/* A frame as lwIP puts it on the line, a flag before it unless the line stands at one; its length. `out` has room. */
-size_t lwip_write(int at_flag, uint16_t protocol, const uint8_t *information, size_t length, uint8_t *out);
+/* A frame as lwIP puts it on the line, a flag before it unless the line stands at one; its length. `out` has room. By all its octets but
+ * the check sequence, or by protocol and information, where lwIP puts FF 03 before them. */
+size_t lwip_write(int at_flag, const uint8_t *octets, size_t length, uint8_t *out);
+size_t lwip_write_packet(int at_flag, uint16_t protocol, const uint8_t *information, size_t length, uint8_t *out);
