@@ -4,13 +4,13 @@ use mathlib.Core.Bool.{Bool, true, false}
 use mathlib.Core.List.{List, [], _∷_, _++_}
 use Prim.Native.Nat.{ℕ, suc, _+_, _-_, _/_, _%_, _≤_, _<_}
 use native.Mathlib.Omega.{arith}
-use borrow.Author.Tests.{eqb-true, eqb-false, ltb-true, ltb-false}
-use lib.Dec.{eqb, ltb, lit<}
-use lib.ListN.{length, getD, take, drop, set, length-set, take-append-drop, List·getD-eq-default, length-take}
-use lib.Seq.{getD-take, getD-drop, getD-set-same, getD-set-other, set-split, split-at}
+use borrow.Author.Tests.{eqb-true, eqb-false}
+use lib.Dec.{eqb, lit<}
+use lib.ListN.{length, getD, take, drop, set, length-set, take-append-drop}
+use lib.Seq.{getD-set-same, getD-set-other, set-split, split-at}
 use Rattle.common.specs.Refusals.{guarded}
 use Rattle.fcs.specs.Fcs.{preset, residue, feedAll, checkSequence}
-use Rattle.fcs.proofs.Register.{Octets}
+use Rattle.fcs.proofs.Register.{Octets, octets-drop}
 use Rattle.fcs.proofs.Residue.{check-residue, changed-octet}
 use Rattle.afp.specs.Limits.{minFrame, maxFrame}
 use Rattle.afp.specs.Answers.{badCheck}
@@ -19,19 +19,6 @@ use Rattle.afp.specs.Reading.{refusals}
 use Rattle.afp.proofs.Refusals.{envelope-check}
 use Rattle.afp.proofs.Answers.{refused-envelope}
 use Rattle.afp_laws.proofs.Accepted.{last-two}
-
--- ---- each octet of a part is one
-octets-take : (f : List ℕ) (n : ℕ) → Octets f → Octets (take n f)
-octets-take f n o i = by (ltb i n) refl
-  where
-    by : (b : Bool) → ltb i n ≡ b → getD (take n f) i 0 < 256
-    by true e = rw (getD-take n f i 0 (ltb-true i n e)) (o i)
-    by false e =
-        let l : n ≤ i = ltb-false i n e in
-        rw (List·getD-eq-default (take n f) 0 {n = i} (omega (arith, length-take n f))) (omega arith)
-
-octets-drop : (f : List ℕ) (n : ℕ) → Octets f → Octets (drop n f)
-octets-drop f n o i = rw (getD-drop n f i 0) (o (n + i))
 
 -- ---- a frame whose check sequence is right leaves the residue
 module _ (f : List ℕ) (o : Octets f) (l : 2 ≤ length f) where
@@ -58,7 +45,7 @@ module _ (f : List ℕ) (i y : ℕ) (o : Octets f) (hy : y < 256) (hi : i < leng
   register-differs : feedAll preset f ≡ feedAll preset (set f i y) → ⊥
   register-differs e =
       differs
-      (changed-octet preset (take i f) (drop (suc i) f) (octet f i) y (lit< tt) (octets-drop f (suc i) o) (o i) hy
+      (changed-octet preset (take i f) (drop (suc i) f) (octet f i) y (lit< tt) (octets-drop (suc i) f o) (o i) hy
       (ap (feedAll preset) (sym (split-at f i 0 hi)) ∙ e ∙ ap (feedAll preset) (set-split f i y hi)))
 
   module _ (long : minFrame ≤ length f) (short : length f ≤ maxFrame) (right : receivedCheck f ≡ checkSequence (checkedPart f)) where

@@ -8,7 +8,7 @@ use native.Mathlib.Omega.{arith}
 use lib.Bits.{bitXor, differ, xor-lt, xor-zero-l, xor-zero-r, xor-self, xor-comm, xor-shifted}
 use lib.Dec.{lit<}
 use lib.ListN.{length, getD, take, drop, take-append-drop, drop-of-length-le, length-drop}
-use lib.Seq.{drop-cons, drop-drop, take-all, length-take-le}
+use lib.Seq.{getD-drop, drop-cons, drop-drop, take-all, length-take-le}
 use Rattle.fcs.specs.Fcs.{generator, preset, reduceIf, feedBit, feedBits, feed, feedAll, checkSequence}
 use Rattle.fcs.specs.Words.{shiftBit, shiftBits, littleEndian}
 use Rattle.common.proofs.Xor.{xor-half, xor-low, xor-parity, xor-assoc, xor-cancel, xor-exchange}
@@ -17,6 +17,9 @@ use Rattle.fcs.proofs.Linear.{Linear, linear-id, linear-∘}
 -- each octet of a list is one
 abbrev pub Octets : List ℕ → Type 0
 Octets xs = (i : ℕ) → getD xs i 0 < 256
+
+pub octets-drop : (n : ℕ) (xs : List ℕ) → Octets xs → Octets (drop n xs)
+octets-drop n xs o i = rw (getD-drop n xs i 0) (o (n + i))
 
 -- ---- the register is linear
 reduce-xor : (d e g h : ℕ) → d < 2 → e < 2 → reduceIf (differ d e) (bitXor g h) ≡ bitXor (reduceIf d g) (reduceIf e h)

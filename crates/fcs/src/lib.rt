@@ -1,7 +1,7 @@
-// The frame check sequence of ISO 3309, without a table: eight octets at a time, and the last few by twos.
+// The frame check sequence of ISO 3309, without a table: eight octets at a time, and the last few at once; fewer than eight by twos.
 ghost use mathlib.Core.Path.{_≡_};
-ghost use Prim.Native.Nat.{_+_, _*_, _%_, _<_};
-ghost use lib.ListN.{length};
+ghost use Prim.Native.Nat.{_+_, _-_, _*_, _%_, _≤_, _<_};
+ghost use lib.ListN.{length, drop};
 ghost use Rattle.fcs.specs.Fcs.{feed, feedAll, checkSequence};
 ghost use Rattle.fcs.specs.Words.{shiftBits, littleEndian};
 
@@ -119,15 +119,33 @@ fn feed_rest(register: u16, octets: &[u8]) -> u16
     feed_octets(c, &octets[even..])
 }
 
+// The register after the last k of eight octets, two to eight. They are moved to the top of a word, so that what leaves the register
+// before them is 0 and one division does for all.
+fn feed_last(register: u16, octets: &[u8], k: usize) -> u16
+    requires { ⌜ length (now octets) ≡ 8 ⌝ }
+    requires { ⌜ (2 ≤ k) × (k ≤ 8) ⌝ }
+    ensures { λ r. ⌜ r ≡ feedAll register (drop (8 - k) (now (octets .entry))) ⌝ }
+{
+    let s = 64 - 8 * k as u32;
+    shift_word(((word(octets) >> s) ^ (register as u64)) << s)
+}
+
 // The register after a slice of any length, so that octets which come in parts can be fed as they come.
-// Whole eights first, since a word takes one division; fewer than eight are left for the rest.
+// Whole eights first, since a word takes one division; of the fewer than eight that are left, two or more take one too.
 pub fn feed(register: u16, octets: &[u8]) -> u16
     ensures { λ r. ⌜ r ≡ feedAll register (now (octets .entry)) ⌝ }
 {
     let n = octets.len();
-    let whole = n - n % 8;
+    let k = n % 8;
+    let whole = n - k;
     let c = feed_eights(register, &octets[..whole]);
-    feed_rest(c, &octets[whole..])
+    if whole == 0 {
+        return feed_rest(c, &octets[whole..]);
+    }
+    if k < 2 {
+        return feed_octets(c, &octets[whole..]);
+    }
+    feed_last(c, &octets[n - 8..], k)
 }
 
 // The check sequence of a slice. Its low octet goes on the line first.
