@@ -142,23 +142,18 @@ fn first(e: Escapes, x: u8) -> u8
     if e.escapes(x) { e.escape } else { x }
 }
 
-// What stands second for an octet that is escaped; for any other what was there.
+// What stands second for an octet that is escaped; for any other what was there. Each test is made, so that there is no branch.
 fn second(e: Escapes, x: u8, kept: u8) -> u8
     ensures { λ r. ⌜ r ≡ cond (isEscaped e x) (behind e x) kept ⌝ }
 {
-    if x == e.flag {
-        e.behind_flag
-    } else if x == e.escape {
-        e.behind_escape
-    } else if e.others {
-        if x == e.third {
-            e.behind_third
-        } else if x == e.fourth {
-            e.behind_fourth
-        } else {
-            kept
-        }
-    } else {
-        kept
-    }
+    let d = pick(e.others & (x == e.fourth), e.behind_fourth, kept);
+    let c = pick(e.others & (x == e.third), e.behind_third, d);
+    let b = pick(x == e.escape, e.behind_escape, c);
+    pick(x == e.flag, e.behind_flag, b)
+}
+
+fn pick(is: bool, x: u8, y: u8) -> u8
+    ensures { λ r. ⌜ r ≡ cond is x y ⌝ }
+{
+    if is { x } else { y }
 }
