@@ -14,20 +14,20 @@ static_assert(sizeof(hasfandur_written) == 16, "hasfandur_written");
 FIELD(hasfandur_written, number, 0, 1);
 FIELD(hasfandur_written, length, 8, 8);
 
-static_assert(sizeof(hasfandur_qaft_reader) == 24, "hasfandur_qaft_reader");
+static_assert(sizeof(hasfandur_qaft_reader) == 16, "hasfandur_qaft_reader");
 FIELD(hasfandur_qaft_reader, level, 0, 1);
 FIELD(hasfandur_qaft_reader, check_kind, 1, 1);
 FIELD(hasfandur_qaft_reader, synced, 2, 1);
 FIELD(hasfandur_qaft_reader, pending, 3, 1);
+FIELD(hasfandur_qaft_reader, bad_pair, 4, 1);
+FIELD(hasfandur_qaft_reader, check, 6, 2);
 FIELD(hasfandur_qaft_reader, count, 8, 8);
-FIELD(hasfandur_qaft_reader, check, 16, 2);
-FIELD(hasfandur_qaft_reader, bad_pair, 18, 1);
 
-static_assert(sizeof(hasfandur_qaft_answer) == 48, "hasfandur_qaft_answer");
+static_assert(sizeof(hasfandur_qaft_answer) == 40, "hasfandur_qaft_answer");
 FIELD(hasfandur_qaft_answer, number, 0, 1);
 FIELD(hasfandur_qaft_answer, taken, 8, 8);
 FIELD(hasfandur_qaft_answer, length, 16, 8);
-FIELD(hasfandur_qaft_answer, reader, 24, 24);
+FIELD(hasfandur_qaft_answer, reader, 24, 16);
 
 static_assert(sizeof(hasfandur_kiss_reader) == 24, "hasfandur_kiss_reader");
 FIELD(hasfandur_kiss_reader, synced, 0, 1);

@@ -155,9 +155,9 @@ hasfandur_written hasfandur_qaft_write(uint8_t level, uint8_t check_kind, bool a
 
 /*
  * The reader's state, which goes from call to call by value: level; kind of check; whether a flag has come; whether a 7D waits for
- * its partner; octets of the segment so far, escapes undone, 2,562 for all above, with HASFANDUR_QAFT_FCS 2,563; their running
- * check, which is their sum modulo 256, or with HASFANDUR_QAFT_FCS the register before the complement, FFFF at a count of 0; whether
- * a bad pair came in the segment. In `synced`, `pending` and `bad_pair` any number but 0 stands for true; a call that is not refused
+ * its partner; whether a bad pair came in the segment; the running check of the segment's octets, escapes undone, which is their sum
+ * modulo 256, or with HASFANDUR_QAFT_FCS the register before the complement, FFFF at a count of 0; how many they are, 2,562 for all
+ * above, with HASFANDUR_QAFT_FCS 2,563. In `synced`, `pending` and `bad_pair` any number but 0 stands for true; a call that is not refused
  * gives 0 or 1 back.
  */
 typedef struct hasfandur_qaft_reader {
@@ -165,9 +165,9 @@ typedef struct hasfandur_qaft_reader {
     uint8_t check_kind;
     uint8_t synced;
     uint8_t pending;
-    size_t count;
-    uint16_t check;
     uint8_t bad_pair;
+    uint16_t check;
+    size_t count;
 } hasfandur_qaft_reader;
 
 /* The reader's answer: report or refusal; octets of the chunk taken; data octets at the front of the buffer (0 unless the

@@ -42,9 +42,9 @@ pub struct RawReader {
     pub check_kind: u8,
     pub synced: u8,
     pub pending: u8,
-    pub count: usize,
-    pub check: u16,
     pub bad_pair: u8,
+    pub check: u16,
+    pub count: usize,
 }
 
 impl From<State> for RawReader {

@@ -6,7 +6,7 @@ ghost use mathlib.Core.Path.{_≡_};
 ghost use mathlib.Core.Bool.{not, _||_};
 ghost use Prim.Native.Nat.{_≤_};
 ghost use lib.ListN.{length};
-ghost use Rattle.framing.specs.Step.{next, checkOfNothing, segmentBeforeFlag, malformed};
+ghost use Rattle.framing.specs.Step.{next, malformed};
 ghost use Rattle.deframer.specs.Rule.{isSkipped, partnerOf, isBadPair, rulesOf};
 ghost use Rattle.deframer.specs.Scan.{view, opened, joined, stored, inSegment, closed, step, scanned, scanCall};
 use escapes::Escapes;
@@ -211,40 +211,40 @@ impl Rule {
     }
 
     // Whether some line leads to a state: no more than one octet past the cap; a check that octets lead to; of no octets no check and no
-    // bad pair; before any flag no segment.
+    // bad pair; before any flag no segment. A state of no octets is looked at first: with short frames most are.
     pub fn well_formed(self, s: State) -> bool
         ensures { λ r. ⌜ r ≡ not (malformed (rulesOf self) (view s)) ⌝ }
     {
-        let n = s.count;
-        if self.cap as usize + 1 < n {
+        if s.count == 0 {
+            return self.well_formed_empty(s);
+        }
+        if self.cap as usize + 1 < s.count {
             return false;
         }
         if check::is_check(self.check, s.check) {
-            return self.in_place(s);
+            return s.synced;
         }
         false
     }
 
-    // The same of a state whose count and check are none that can't be.
-    fn in_place(self, s: State) -> bool
-        ensures { λ r. ⌜ r ≡ not (checkOfNothing (rulesOf self) (view s) || segmentBeforeFlag (rulesOf self) (view s)) ⌝ }
+    // The same of a state of no octets.
+    fn well_formed_empty(self, s: State) -> bool
+        requires { ⌜ s .count ≡ 0 ⌝ }
+        ensures { λ r. ⌜ r ≡ not (malformed (rulesOf self) (view s)) ⌝ }
     {
-        if s.count == 0 {
-            if s.bad {
-                return false;
-            }
-            if s.check != check::blank(self.check) {
-                return false;
-            }
-            if s.synced {
-                return true;
-            }
-            if s.pending {
-                return false;
-            }
+        if s.bad {
+            return false;
+        }
+        if s.check != check::blank(self.check) {
+            return false;
+        }
+        if s.synced {
             return true;
         }
-        s.synced
+        if s.pending {
+            return false;
+        }
+        true
     }
 
     // Raw octets that are escaped are skipped, but for the flag and the escape.

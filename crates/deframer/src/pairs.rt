@@ -19,14 +19,14 @@ pub struct Taken {
     pub state: State,
 }
 
-// Behind an escape: takes octets where another escape is near, and none else. None where a sum or a register is kept of them either:
-// with this beside it QAFT's loop, whose lines have few escapes, came out slower.
+// Behind an escape: takes octets where another escape is near, and none else. None where a sum is kept of them either: with this
+// beside it QAFT's loop, whose lines have few escapes, came out slower.
 pub(crate) fn take(rule: Rule, s: State, chunk: &[u8], buffer: &mut [u8]) -> Taken
     requires { ⌜ «rule» .cap ≤ length (now buffer) ⌝ }
     ensures { λ r. ⌜ r .taken ≤ length (now (chunk .entry)) ⌝ }
     ensures { λ r. ⌜ Ahead «rule» s (now (chunk .entry)) (now (buffer .entry)) (r .taken) (r .state) (now (buffer .exit)) ⌝ }
 {
-    if rule.check != crate::FIRST {
+    if rule.check == crate::SUM {
         return Taken { taken: 0, state: s };
     }
     if s.pending {

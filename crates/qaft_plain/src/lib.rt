@@ -8,15 +8,16 @@ ghost use Rattle.qaft_plain.specs.Plain.{readerOf, plainOf, later, answe
 use qaft_read::Reader;
 use qaft_report::Outcome;
 
+// In this order the state has sixteen octets, which C hands over in registers.
 #[repr(C)]
 pub struct PlainReader {
     pub level: u8,
     pub check_kind: u8,
     pub synced: u8,
     pub pending: u8,
-    pub count: usize,
-    pub check: u16,
     pub bad_pair: u8,
+    pub check: u16,
+    pub count: usize,
 }
 
 // The report or refusal, the octets taken, the data octets shown, the state for the next call.
@@ -67,13 +68,28 @@ impl PlainReader {
         }
     }
 
+    // The same numbers, field by field: of a copy at once the compiler moves what lies between the fields too.
+    fn by_fields(self) -> PlainReader
+        ensures { λ r. ⌜ r ≡ self ⌝ }
+    {
+        PlainReader {
+            level: self.level,
+            check_kind: self.check_kind,
+            synced: self.synced,
+            pending: self.pending,
+            bad_pair: self.bad_pair,
+            check: self.check,
+            count: self.count,
+        }
+    }
+
     // The state given back: after a refusal the very numbers that came, otherwise those of the next state.
     fn later(self, outcome: Outcome, next: Reader) -> PlainReader
         ensures { λ r. ⌜ r ≡ later self outcome next ⌝ }
     {
         let numbers = plain(next);
         match outcome {
-            Outcome::Refused(_) => self,
+            Outcome::Refused(_) => self.by_fields(),
             Outcome::Reported(_) => numbers,
             Outcome::UsedUp => numbers,
         }

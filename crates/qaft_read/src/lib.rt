@@ -22,9 +22,9 @@ pub struct Reader {
     pub check_kind: u8,
     pub synced: bool,
     pub pending: bool,
-    pub count: usize,
-    pub check: u16,
     pub bad_pair: bool,
+    pub check: u16,
+    pub count: usize,
 }
 
 // The verdict on a segment: none while it is open, a report where a flag closed it.

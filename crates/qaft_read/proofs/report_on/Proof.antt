@@ -1,8 +1,7 @@
 -- `qaft_read::report_on` meets its contract: each return by the tests on its way. Assumes nothing.
 use Prim.Native.Nat.{ℕ, _-_}
-use mathlib.Core.Path.{_≡_, sym, ap, _∙_}
+use mathlib.Core.Path.{sym, ap, _∙_}
 use native.Mathlib.Omega.{arith}
-use borrow.Author.Needs.{needs}
 use borrow.Author.Tests.{lt-ltb, le-ltb, eq-eqb, ne-eqb}
 use Rattle.qaft.proofs.Check.{check-size-bounds}
 use Rattle.qaft.specs.Check.{checkBy}

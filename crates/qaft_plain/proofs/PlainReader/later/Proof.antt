@@ -18,10 +18,13 @@ enum-told-2 c = search needs
 enum-told-3 : tie.Need-enum-told-3
 enum-told-3 c = search needs
 
+by-fields-requires : tie.Need-by-fields-requires
+by-fields-requires c κs = tt
+
 returns : tie.Need-returns
 returns c =
-    let args = c .before .before .before .args in
-    sym (ap (λ (o : Outcome). later (args .self) o (args .next)) (c .enum-told .given .1))
+    let args = c .before .before .before .before .args in
+    c .by-fields .ensures ∙ sym (ap (λ (o : Outcome). later (args .self) o (args .next)) (c .before .enum-told .given .1))
 
 returns-2 : tie.Need-returns-2
 returns-2 c =
@@ -34,4 +37,4 @@ returns-3 c =
     c .before .before .plain .ensures ∙ sym (ap (λ (o : Outcome). later (args .self) o (args .next)) (c .enum-told3 .given .1))
 
 pub later-spec : {M : Type 1} → statement M
-later-spec = tie.close (tie.spec plain-requires enum-told enum-told-2 enum-told-3 returns returns-2 returns-3)
+later-spec = tie.close (tie.spec plain-requires enum-told by-fields-requires enum-told-2 enum-told-3 returns returns-2 returns-3)

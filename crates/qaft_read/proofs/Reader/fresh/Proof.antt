@@ -1,6 +1,6 @@
 -- `qaft_read::Reader::fresh` meets its contract: field by field. Assumes nothing.
 use Prim.Native.Nat.{ℕ}
-use mathlib.Core.Bool.{true, false}
+use mathlib.Core.Bool.{false}
 use mathlib.Core.Path.{ap}
 use Rattle.qaft_read.proofs.Reader.fresh.Statement.{statement}
 use Rattle.qaft_read.proofs.Reader.fresh.Tie as tie
