@@ -1,22 +1,18 @@
 -- Laws of a frame and of a line of frames. Assumes nothing.
 use Prim.Native.Nat.{ℕ, _+_, _≤_}
 use mathlib.Core.Bool.{Bool, false}
-use mathlib.Core.List.{List, [], _∷_, _++_, map, List·Memᴰ}
+use mathlib.Core.List.{List, map, List·Memᴰ}
 use mathlib.Core.Path.{_≡_, refl, ap, _∙_}
 use native.Mathlib.Omega.{arith}
-use lib.ListN.{length, replicate, length-append}
-use Rattle.fcs.specs.Fcs.{feedBit, feedBits, feed, feedAll, checkSequence}
+use lib.ListN.{length, length-append}
 use Rattle.framing.proofs.Escaping.{escaped-no-flag}
 use Rattle.framing.proofs.Frames as framing
-use Rattle.framing.specs.Writing.{escapedOne, escaped}
-use Rattle.framing.specs.Writing as written
-use Rattle.octets.specs.Sum.{sum}
 use Rattle.qaft.proofs.Check.{sound}
 use Rattle.qaft.proofs.Escape.{plain-octet, escaped-octet}
-use Rattle.qaft.specs.Check.{checkOctet, checkBy}
-use Rattle.qaft.specs.Escape.{flag, escapeOctet, isEscaped, writing}
+use Rattle.qaft.specs.Check.{checkBy}
+use Rattle.qaft.specs.Escape.{flag, writing}
 use Rattle.qaft.specs.Frame.{sealed, body, frame, line, frames}
-use Rattle.qaft.specs.Limits.{sumKind, fcsKind, maxData, checkSize, maxFrameOf}
+use Rattle.qaft.specs.Limits.{maxData, checkSize, maxFrameOf}
 
 -- "written bodies hold no 7E"
 pub body-no-flag : (level kind : ℕ) (d : List ℕ) → List·Memᴰ flag (body level kind d) → ⊥
@@ -31,23 +27,6 @@ length-sealed kind d = length-append d (checkBy kind .octets d) ∙ ap (λ (n : 
 pub frame-fits : (level kind : ℕ) (atFlag : Bool) (d : List ℕ) → length d ≤ maxData → length (frame level kind atFlag d) ≤ maxFrameOf kind
 unfolding frame
 frame-fits level kind atFlag d h = omega (arith, framing.frame-bound (writing level) atFlag (sealed kind d), length-sealed kind d)
-
--- data of which every octet is escaped, and the check octet too
-abbrev widest : List ℕ
-widest = replicate 130 flag ++ replicate 2430 escapeOctet
-
--- so many octets are needed
-pub frame-fits-tight : (length widest ≡ maxData) × (length (frame 0 sumKind false widest) ≡ maxFrameOf sumKind)
-unfolding frame written.frame escaped escapedOne isEscaped checkOctet sum
-frame-fits-tight = (refl, refl)
-
--- the same with the check sequence, which is 7D 7D
-abbrev widest-fcs : List ℕ
-widest-fcs = replicate 2547 flag ++ (0x7D ∷ 0x7D ∷ 0x7D ∷ 0x7E ∷ 0x7D ∷ 0x7E ∷ 0x7D ∷ 0x7E ∷ 0x7D ∷ 0x7E ∷ 0x7E ∷ 0x7E ∷ 0x7D ∷ [])
-
-pub frame-fits-tight-fcs : (length widest-fcs ≡ maxData) × (length (frame 0 fcsKind false widest-fcs) ≡ maxFrameOf fcsKind)
-unfolding frame written.frame escaped escapedOne isEscaped checkSequence feedAll feed feedBits feedBit
-frame-fits-tight-fcs = (refl, refl)
 
 -- the first not at a flag and the rest at one: the line of the list
 pub frames-line : (level kind : ℕ) (ds : List (List ℕ)) → frames level kind false ds ≡ line level kind ds

@@ -1,15 +1,15 @@
 -- With the check sequence a frame that was changed within sixteen bits in a row is a bad check. Assumes nothing.
-use Prim.Native.Nat.{ℕ, _+_, _/_, _%_, _≤_, _<_}
+use Prim.Native.Nat.{ℕ, _+_, _≤_}
 use mathlib.Core.Bool.{false}
 use mathlib.Core.List.{List, [], _∷_, _++_}
-use mathlib.Core.Path.{_≡_, refl, sym, ap, _∙_}
+use mathlib.Core.Path.{_≡_, sym, ap, _∙_}
 use native.Mathlib.Omega.{arith}
 use borrow.Author.Tests.{le-ltb, le-leb, ne-eqb}
 use lib.ListN.{length}
 use Rattle.fcs.proofs.Bursts.{burst-told}
 use Rattle.fcs.proofs.Residue.{check-residue}
 use Rattle.fcs.specs.Bursts.{Burst}
-use Rattle.fcs.specs.Fcs.{preset, residue, feedAll, checkSequence}
+use Rattle.fcs.specs.Fcs.{preset, residue, checkSequence}
 use Rattle.framing.proofs.Bodies.{octets-getD, octets-++}
 use Rattle.framing.proofs.Within.{capped-low}
 use Rattle.framing.specs.Bodies.{Octets}

@@ -3,10 +3,9 @@ use mathlib.Core.List.{[], _∷_, _++_}
 use mathlib.Core.Path.{_≡_, refl}
 use lib.ListN.{replicate}
 use Rattle.fcs.specs.Fcs.{feedBit, feedBits, feed}
-use Rattle.framing.specs.Reports.{Reported, afterFlag, atFront, segments, unskipped, onto, ontoPair, unescape, checkFrom, checkOf, judged, reportsOfOctets, reportsOfSegment, reportsOfSegments, reportsOf}
+use Rattle.framing.specs.Reports.{afterFlag, atFront, segments, unskipped, onto, ontoPair, unescape, checkFrom, checkOf, judged, reportsOfOctets, reportsOfSegment, reportsOfSegments, reportsOf}
 use Rattle.qaft.specs.Escape.{isFlowControl, isEscaped}
 use Rattle.qaft.specs.Limits.{sumKind, fcsKind}
-use Rattle.qaft_report.specs.declared.Report.{Report}
 use Rattle.qaft_report.specs.declared.Report.the-variants.{Aborted, Long, Short, BadCheck, BadPair}
 use Rattle.qaft_rules.specs.Examples.{bare}
 use Rattle.qaft_rules.specs.Rules.{verdict, isBadPair, rules, framed}
