@@ -7,12 +7,15 @@
 
 #include <string.h>
 
+/* the kinds of check */
+enum { SUM = HASFANDUR_QAFT_SUM, FCS = HASFANDUR_QAFT_FCS };
+
 /* One frame into a buffer with `room` octets. */
-static void write_case(const char *name, uint8_t level, bool at_flag, const uint8_t *data, size_t length, size_t room)
+static void write_case(const char *name, uint8_t level, uint8_t kind, bool at_flag, const uint8_t *data, size_t length, size_t room)
 {
-    static uint8_t out[HASFANDUR_QAFT_MAX_FRAME + 1];
+    static uint8_t out[HASFANDUR_QAFT_FCS_MAX_FRAME + 1];
     memset(out, UNTOUCHED, sizeof out);
-    hasfandur_written w = hasfandur_qaft_write(level, at_flag, data, length, out, room);
+    hasfandur_written w = hasfandur_qaft_write(level, kind, at_flag, data, length, out, room);
     printf("%s: %u, %zu octets", name, (unsigned)w.number, w.length);
     if (w.length != 0 && w.length <= 8) {
         printf(":");
@@ -27,40 +30,61 @@ static void write_cases(void)
     static uint8_t big[HASFANDUR_QAFT_MAX_DATA + 1];
 
     /* worked on paper */
-    write_case("write 41", 0, false, a, 1, HASFANDUR_QAFT_MAX_FRAME);
-    write_case("write 7E", 0, false, flag, 1, HASFANDUR_QAFT_MAX_FRAME);
-    write_case("write 82", 0, false, check, 1, HASFANDUR_QAFT_MAX_FRAME);
-    write_case("write 00", 0, false, zero, 1, HASFANDUR_QAFT_MAX_FRAME);
-    write_case("write 11", 0, false, xon, 1, HASFANDUR_QAFT_MAX_FRAME);
-    write_case("write 11 at level 1", 1, false, xon, 1, HASFANDUR_QAFT_MAX_FRAME);
-    write_case("write ED at level 1", 1, false, ed, 1, HASFANDUR_QAFT_MAX_FRAME);
-    write_case("write 41 at a flag", 0, true, a, 1, HASFANDUR_QAFT_MAX_FRAME);
+    write_case("write 41", 0, SUM, false, a, 1, HASFANDUR_QAFT_MAX_FRAME);
+    write_case("write 7E", 0, SUM, false, flag, 1, HASFANDUR_QAFT_MAX_FRAME);
+    write_case("write 82", 0, SUM, false, check, 1, HASFANDUR_QAFT_MAX_FRAME);
+    write_case("write 00", 0, SUM, false, zero, 1, HASFANDUR_QAFT_MAX_FRAME);
+    write_case("write 11", 0, SUM, false, xon, 1, HASFANDUR_QAFT_MAX_FRAME);
+    write_case("write 11 at level 1", 1, SUM, false, xon, 1, HASFANDUR_QAFT_MAX_FRAME);
+    write_case("write ED at level 1", 1, SUM, false, ed, 1, HASFANDUR_QAFT_MAX_FRAME);
+    write_case("write 41 at a flag", 0, SUM, true, a, 1, HASFANDUR_QAFT_MAX_FRAME);
 
     /* the longest frame: each octet of data and the check octet escaped */
     memset(big, 0x7D, sizeof big);
     memset(big, 0x7E, 130);
-    write_case("write 2560", 0, false, big, HASFANDUR_QAFT_MAX_DATA, HASFANDUR_QAFT_MAX_FRAME);
+    write_case("write 2560", 0, SUM, false, big, HASFANDUR_QAFT_MAX_DATA, HASFANDUR_QAFT_MAX_FRAME);
 
     /* room for this very frame, and one octet less */
-    write_case("room 4", 0, false, a, 1, 4);
-    write_case("room 3", 0, false, a, 1, 3);
-    write_case("room 3 at a flag", 0, true, a, 1, 3);
-    write_case("room 5123", 0, false, big, HASFANDUR_QAFT_MAX_DATA, HASFANDUR_QAFT_MAX_FRAME - 1);
+    write_case("room 4", 0, SUM, false, a, 1, 4);
+    write_case("room 3", 0, SUM, false, a, 1, 3);
+    write_case("room 3 at a flag", 0, SUM, true, a, 1, 3);
+    write_case("room 5123", 0, SUM, false, big, HASFANDUR_QAFT_MAX_DATA, HASFANDUR_QAFT_MAX_FRAME - 1);
 
-    /* refusals, and each pair of neighbours in the order 6, 1, 2, 3 */
-    write_case("level 2", 2, false, a, 1, HASFANDUR_QAFT_MAX_FRAME);
-    write_case("no data", 1, false, a, 0, HASFANDUR_QAFT_MAX_FRAME);
-    write_case("2561 octets", 0, false, big, HASFANDUR_QAFT_MAX_DATA + 1, HASFANDUR_QAFT_MAX_FRAME);
-    write_case("level 2, no data", 2, false, a, 0, HASFANDUR_QAFT_MAX_FRAME);
-    write_case("level 255, 2561 octets", 255, false, big, HASFANDUR_QAFT_MAX_DATA + 1, HASFANDUR_QAFT_MAX_FRAME);
-    write_case("no data, no room", 0, false, a, 0, 0);
-    write_case("2561 octets, no room", 0, false, big, HASFANDUR_QAFT_MAX_DATA + 1, 0);
+    /* refusals, and each pair of neighbours in the order 6, 7, 1, 2, 3 */
+    write_case("level 2", 2, SUM, false, a, 1, HASFANDUR_QAFT_MAX_FRAME);
+    write_case("kind 2", 0, 2, false, a, 1, HASFANDUR_QAFT_MAX_FRAME);
+    write_case("level 2, kind 2", 2, 2, false, a, 1, HASFANDUR_QAFT_MAX_FRAME);
+    write_case("kind 255, no data", 0, 255, false, a, 0, HASFANDUR_QAFT_MAX_FRAME);
+    write_case("no data", 1, SUM, false, a, 0, HASFANDUR_QAFT_MAX_FRAME);
+    write_case("2561 octets", 0, SUM, false, big, HASFANDUR_QAFT_MAX_DATA + 1, HASFANDUR_QAFT_MAX_FRAME);
+    write_case("level 2, no data", 2, SUM, false, a, 0, HASFANDUR_QAFT_MAX_FRAME);
+    write_case("level 255, 2561 octets", 255, SUM, false, big, HASFANDUR_QAFT_MAX_DATA + 1, HASFANDUR_QAFT_MAX_FRAME);
+    write_case("no data, no room", 0, SUM, false, a, 0, 0);
+    write_case("2561 octets, no room", 0, SUM, false, big, HASFANDUR_QAFT_MAX_DATA + 1, 0);
 
     /* a frame whose octets are all escaped, the check octet 7E too, fills the size that the header says */
     memset(big, 0x7D, sizeof big);
     memset(big, 0x7E, 136);
-    write_case("258 octets in their size", 0, false, big, 258, HASFANDUR_QAFT_FRAME_SIZE(258));
-    write_case("258 octets in one less", 0, false, big, 258, HASFANDUR_QAFT_FRAME_SIZE(258) - 1);
+    write_case("258 octets in their size", 0, SUM, false, big, 258, HASFANDUR_QAFT_FRAME_SIZE(258));
+    write_case("258 octets in one less", 0, SUM, false, big, 258, HASFANDUR_QAFT_FRAME_SIZE(258) - 1);
+}
+
+/* The same with the check sequence. */
+static void write_fcs_cases(void)
+{
+    /* worked on paper: 7388, low octet first; check octets 7E 7E, and at level 1 7E 11 */
+    static const uint8_t paper[] = {0x21, 0x04}, flags[] = {0x1B, 0x00}, xon[] = {0x2E, 0x82};
+    /* the end of the longest frame's data: behind flags, its check is 7D 7D */
+    static const uint8_t end[] = {0x7D, 0x7D, 0x7D, 0x7E, 0x7D, 0x7E, 0x7D, 0x7E, 0x7D, 0x7E, 0x7E, 0x7E, 0x7D};
+    static uint8_t big[HASFANDUR_QAFT_MAX_DATA];
+    write_case("check sequence, 21 04", 0, FCS, false, paper, 2, HASFANDUR_QAFT_FCS_MAX_FRAME);
+    write_case("check sequence, 1B 00", 0, FCS, false, flags, 2, HASFANDUR_QAFT_FCS_FRAME_SIZE(2));
+    write_case("check sequence, 2E 82 at level 1, at a flag", 1, FCS, true, xon, 2, HASFANDUR_QAFT_FCS_FRAME_SIZE(2));
+    memset(big, 0x7E, sizeof big);
+    memcpy(big + sizeof big - sizeof end, end, sizeof end);
+    write_case("check sequence, 2560", 0, FCS, false, big, sizeof big, HASFANDUR_QAFT_FCS_MAX_FRAME);
+    write_case("check sequence, room 5125", 0, FCS, false, big, sizeof big, HASFANDUR_QAFT_FCS_MAX_FRAME - 1);
+    write_case("check sequence, room 5", 0, FCS, false, paper, 2, 5);
 }
 
 static void check_cases(void)
@@ -76,7 +100,7 @@ static void check_cases(void)
 static void print_answer(hasfandur_qaft_answer a, const uint8_t *buffer)
 {
     printf("  %u, took %zu, state %d %d %zu %02X %d", (unsigned)a.number, a.taken, a.reader.synced, a.reader.pending,
-           a.reader.count, a.reader.sum, a.reader.bad_pair);
+           a.reader.count, (unsigned)a.reader.check, a.reader.bad_pair);
     if (a.number == HASFANDUR_QAFT_FRAME) {
         printf(", data");
         print_octets(buffer, a.length);
@@ -85,11 +109,11 @@ static void print_answer(hasfandur_qaft_answer a, const uint8_t *buffer)
 }
 
 /* Reads a line in two chunks, handing on the rest of each after a report. */
-static void read_case(const char *name, uint8_t level, const uint8_t *line, size_t cut, size_t length)
+static void read_case(const char *name, uint8_t level, uint8_t kind, const uint8_t *line, size_t cut, size_t length)
 {
-    static uint8_t buffer[HASFANDUR_QAFT_MAX_SEGMENT];
+    static uint8_t buffer[HASFANDUR_QAFT_FCS_MAX_SEGMENT];
     const size_t ends[] = {cut, length};
-    hasfandur_qaft_reader state = hasfandur_qaft_fresh(level);
+    hasfandur_qaft_reader state = hasfandur_qaft_fresh(level, kind);
     size_t at = 0;
     printf("%s\n", name);
     for (size_t k = 0; k < 2; k++) {
@@ -113,25 +137,50 @@ static void read_cases(void)
     /* 7D 41 for 61, cut behind 7D, as a splitter box made it; 7D 31, which is good at level 1 alone; 7D 41 and a 7D left over */
     static const uint8_t odd[] = {0x7E, 0x7D, 0x41, 0x9F, 0x7E, 0x7D, 0x31, 0xEF, 0x7E, 0x7D, 0x41, 0x7D, 0x7E};
     static uint8_t buffer[HASFANDUR_QAFT_MAX_SEGMENT];
-    read_case("read the paper's line", 0, line, 8, sizeof line);
-    read_case("read 7D 5E 82, cut behind 7D", 1, pair, 2, sizeof pair);
-    read_case("read 11 at level 1, flow control put in", 1, strewn, 4, sizeof strewn);
-    read_case("the same octets at level 0", 0, strewn, 4, sizeof strewn);
-    read_case("read odd pairs at level 0", 0, odd, 2, sizeof odd);
-    read_case("the same octets at level 1", 1, odd, 3, sizeof odd);
+    read_case("read the paper's line", 0, SUM, line, 8, sizeof line);
+    read_case("read 7D 5E 82, cut behind 7D", 1, SUM, pair, 2, sizeof pair);
+    read_case("read 11 at level 1, flow control put in", 1, SUM, strewn, 4, sizeof strewn);
+    read_case("the same octets at level 0", 0, SUM, strewn, 4, sizeof strewn);
+    read_case("read odd pairs at level 0", 0, SUM, odd, 2, sizeof odd);
+    read_case("the same octets at level 1", 1, SUM, odd, 3, sizeof odd);
 
-    /* refusals 6, 4, 5, in this order */
+    /* refusals 6, 7, 4, 5, in this order */
     printf("read refused\n");
-    hasfandur_qaft_reader bad = {2, 0, 1, 3, 7, 0};
+    hasfandur_qaft_reader bad = {2, 2, 0, 1, 0, 7, 3};
     print_answer(hasfandur_qaft_read(bad, line, sizeof line, buffer, 2560), buffer);
     bad.level = 1;
     print_answer(hasfandur_qaft_read(bad, line, sizeof line, buffer, 2560), buffer);
+    bad.check_kind = SUM;
+    print_answer(hasfandur_qaft_read(bad, line, sizeof line, buffer, 2560), buffer);
     print_answer(hasfandur_qaft_read(bad, line, sizeof line, buffer, sizeof buffer), buffer);
     /* a bad pair of no octets, behind a flag and before any; any number but 0 says that one came */
-    hasfandur_qaft_reader marked = {1, 1, 0, 0, 0, 2};
+    hasfandur_qaft_reader marked = {1, SUM, 1, 0, 2, 0, 0};
     print_answer(hasfandur_qaft_read(marked, line, sizeof line, buffer, sizeof buffer), buffer);
     marked.synced = 0;
     print_answer(hasfandur_qaft_read(marked, line, sizeof line, buffer, sizeof buffer), buffer);
+}
+
+static void read_fcs_cases(void)
+{
+    /* a frame, cut between its check octets; these swapped; two octets; a QAFT frame. At level 1 a frame with check octets 7E 11 */
+    static const uint8_t line[] = {0x7E, 0x21, 0x04, 0x88, 0x73, 0x7E, 0x21, 0x04, 0x73,
+                                   0x88, 0x7E, 0x00, 0x00, 0x7E, 0x41, 0xBF, 0x7E};
+    static const uint8_t xon[] = {0x7E, 0x2E, 0x82, 0x7D, 0x5E, 0x7D, 0x13, 0x31, 0x7E};
+    static uint8_t buffer[HASFANDUR_QAFT_FCS_MAX_SEGMENT];
+    read_case("read with the check sequence", 0, FCS, line, 4, sizeof line);
+    read_case("the same octets with the sum", 0, SUM, line, 4, sizeof line);
+    read_case("read 2E 82 at level 1", 1, FCS, xon, 6, sizeof xon);
+
+    /* a buffer for the sum is too small; a register that is not all ones at count 0, behind a flag and before any; a sum of 256 */
+    printf("read with the check sequence refused\n");
+    hasfandur_qaft_reader state = hasfandur_qaft_fresh(0, FCS);
+    print_answer(hasfandur_qaft_read(state, line, sizeof line, buffer, HASFANDUR_QAFT_MAX_SEGMENT), buffer);
+    state.check = 0;
+    print_answer(hasfandur_qaft_read(state, line, sizeof line, buffer, sizeof buffer), buffer);
+    state.synced = 1;
+    print_answer(hasfandur_qaft_read(state, line, sizeof line, buffer, sizeof buffer), buffer);
+    const hasfandur_qaft_reader over = {0, SUM, 1, 0, 0, 256, 2};
+    print_answer(hasfandur_qaft_read(over, line, sizeof line, buffer, sizeof buffer), buffer);
 }
 
 static void sum_cases(void)
@@ -205,15 +254,15 @@ static void null_cases(void)
 {
     static const uint8_t stations[] = {4, 'A', 'B', '1', 'C', 0};
     static uint8_t buffer[HASFANDUR_QAFT_MAX_SEGMENT], out[64];
-    const hasfandur_qaft_reader fresh = hasfandur_qaft_fresh(0);
+    const hasfandur_qaft_reader fresh = hasfandur_qaft_fresh(0, SUM);
     printf("null\n");
     printf("  check %02X, sums %02X %02X %02X, check sequence %04X\n", hasfandur_qaft_check(NULL, 0), hasfandur_afp_sum(NULL, 0),
            hasfandur_afp_next_station_sum(NULL, 0), hasfandur_afp_header_sum(NULL, 0),
            (unsigned)hasfandur_check_sequence(NULL, 0));
     print_answer(hasfandur_qaft_read(fresh, NULL, 0, NULL, 0), buffer);
     print_answer(hasfandur_qaft_read(fresh, NULL, 0, buffer, sizeof buffer), buffer);
-    printf("  write %u, %u\n", hasfandur_qaft_write(0, false, NULL, 0, NULL, 0).number,
-           hasfandur_qaft_write(0, false, out, 1, NULL, 0).number);
+    printf("  write %u, %u\n", hasfandur_qaft_write(0, SUM, false, NULL, 0, NULL, 0).number,
+           hasfandur_qaft_write(0, SUM, false, out, 1, NULL, 0).number);
     printf("  afp write %u, %u, %u\n", hasfandur_afp_write(0xF0, NULL, 0, 0, NULL, 0, NULL, 0, NULL, 0).number,
            hasfandur_afp_write(0xF0, stations, sizeof stations, 0, NULL, 0, NULL, 0, NULL, 0).number,
            hasfandur_afp_write(0xF0, stations, sizeof stations, 0, NULL, 0, NULL, 0, out, sizeof out).number);
@@ -225,7 +274,7 @@ static void number_cases(void)
 {
     static const uint8_t line[] = {0x5E, 0x82, 0x7E};
     static uint8_t buffer[HASFANDUR_QAFT_MAX_SEGMENT];
-    const hasfandur_qaft_reader waiting = {0, 3, 128, 0, 0, 0}, nowhere = {0, 0, 255, 0, 0, 0};
+    const hasfandur_qaft_reader waiting = {0, SUM, 3, 128, 0, 0, 0}, nowhere = {0, SUM, 0, 255, 0, 0, 0};
     printf("state 3 128, then 0 255\n");
     print_answer(hasfandur_qaft_read(waiting, line, sizeof line, buffer, sizeof buffer), buffer);
     print_answer(hasfandur_qaft_read(nowhere, line, sizeof line, buffer, sizeof buffer), buffer);
@@ -242,8 +291,10 @@ static void name_cases(void)
 int main(void)
 {
     write_cases();
+    write_fcs_cases();
     check_cases();
     read_cases();
+    read_fcs_cases();
     number_cases();
     sum_cases();
     afp_cases();

@@ -1,8 +1,8 @@
 /*
  * What a lost flag does: 600,000 frames of 4 to 32 random octets over a line that loses one octet in 1,000, or one flag in 1,000
  * and nothing else. Written with `at_flag`, so that two frames share a flag, and with flags of their own. Two frames whose flag is
- * lost are one segment, whose octets sum to 0 as each one's did: a frame, and wrong. The gate compares what it prints with
- * flags.expected.
+ * lost are one segment, whose octets sum to 0 as each one's did: a frame, and wrong. With the check sequence they are a bad check.
+ * The gate compares what it prints with flags.expected.
  */
 #include "hasfandur.h"
 
@@ -56,7 +56,7 @@ static bool was_sent(const sent *frames, const uint8_t *octets, size_t length)
 /* Reads what came through, and counts frames that were sent and frames that never were. */
 static void receive(hasfandur_qaft_reader *reader, const uint8_t *line, size_t length, const sent *frames, unsigned *counts)
 {
-    static uint8_t buffer[HASFANDUR_QAFT_MAX_SEGMENT];
+    static uint8_t buffer[HASFANDUR_QAFT_FCS_MAX_SEGMENT];
     size_t at = 0;
     hasfandur_qaft_answer a;
     do {
@@ -69,21 +69,21 @@ static void receive(hasfandur_qaft_reader *reader, const uint8_t *line, size_t l
     } while (hasfandur_is_report(a.number));
 }
 
-static void run(const char *name, bool shared, bool flags_only)
+static void run(const char *name, uint8_t check_kind, bool shared, bool flags_only)
 {
     sent frames;
     unsigned counts[2] = {0, 0};
-    hasfandur_qaft_reader reader = hasfandur_qaft_fresh(0);
+    hasfandur_qaft_reader reader = hasfandur_qaft_fresh(0, check_kind);
     memset(&frames, 0, sizeof frames);
     state = 88172645463325252u;
     for (size_t k = 0; k < FRAMES; k++) {
-        uint8_t out[HASFANDUR_QAFT_FRAME_SIZE(MAX_LENGTH)], line[sizeof out];
+        uint8_t out[HASFANDUR_QAFT_FCS_FRAME_SIZE(MAX_LENGTH)], line[sizeof out];
         uint8_t *data = frames.octets[k % 4];
         const size_t length = frames.lengths[k % 4] = 4 + random_number() % (MAX_LENGTH - 3);
         for (size_t i = 0; i < length; i++) {
             data[i] = (uint8_t)random_number();
         }
-        const hasfandur_written w = hasfandur_qaft_write(0, shared && k != 0, data, length, out, sizeof out);
+        const hasfandur_written w = hasfandur_qaft_write(0, check_kind, shared && k != 0, data, length, out, sizeof out);
         receive(&reader, line, pass(out, w.length, flags_only, line), &frames, counts);
     }
     printf("%s: %u as they were sent, %u wrong\n", name, counts[1], counts[0]);
@@ -91,9 +91,13 @@ static void run(const char *name, bool shared, bool flags_only)
 
 int main(void)
 {
-    run("one octet in 1,000 lost, flags shared", true, false);
-    run("one octet in 1,000 lost, flags of their own", false, false);
-    run("one flag in 1,000 lost, flags shared", true, true);
-    run("one flag in 1,000 lost, flags of their own", false, true);
+    static const char *const checks[] = {"sum", "check sequence"};
+    for (uint8_t kind = HASFANDUR_QAFT_SUM; kind <= HASFANDUR_QAFT_FCS; kind++) {
+        printf("%s\n", checks[kind]);
+        run("  one octet in 1,000 lost, flags shared", kind, true, false);
+        run("  one octet in 1,000 lost, flags of their own", kind, false, false);
+        run("  one flag in 1,000 lost, flags shared", kind, true, true);
+        run("  one flag in 1,000 lost, flags of their own", kind, false, true);
+    }
     return 0;
 }
