@@ -17,9 +17,11 @@ fn main() {
         println!("cargo:rustc-link-lib=static=boost_shim");
         println!("cargo:rustc-link-lib=dylib=stdc++");
     }
-    if built.join("libdirewolf_shim.a").exists() {
-        println!("cargo:rustc-cfg=direwolf");
-        println!("cargo:rustc-link-lib=static=direwolf_shim");
+    for source in ["direwolf", "openconnect"] {
+        if built.join(format!("lib{source}_shim.a")).exists() {
+            println!("cargo:rustc-cfg={source}");
+            println!("cargo:rustc-link-lib=static={source}_shim");
+        }
     }
     if built.join("libosmocom_shim.a").exists() {
         println!("cargo:rustc-cfg=osmocom");

@@ -1,7 +1,21 @@
 #include "plain.h"
 #include <string.h>
 
-enum { FLAG = 0x7E, ESCAPE = 0x7D, MASK = 0x20, LONGEST = 2561 };
+enum { FLAG = 0x7E, ESCAPE = 0x7D, MASK = 0x20, SUM = HASFANDUR_QAFT_SUM, FCS = HASFANDUR_QAFT_FCS, GOOD_FCS = 0xF0B8 };
+
+/* What the two checks share has the kind as an argument, and is compiled for each of them with the kind as a constant. */
+#define BY_KIND static inline __attribute__((always_inline))
+
+static uint16_t table[256];
+
+static inline unsigned by_table(unsigned c, uint8_t x) { return table[(c ^ x) & 0xFF] ^ (c >> 8); }
+
+/* The octets of a check; the running check before any octet, after one more, and whether it is that of a good frame. The running sum
+ * is not cut to eight bits before it is asked for. */
+BY_KIND size_t check_size(uint8_t kind) { return kind == SUM ? 1 : 2; }
+BY_KIND unsigned preset(uint8_t kind) { return kind == SUM ? 0 : 0xFFFF; }
+BY_KIND unsigned after(uint8_t kind, unsigned check, uint8_t x) { return kind == SUM ? check + x : by_table(check, x); }
+BY_KIND bool good(uint8_t kind, unsigned check) { return kind == SUM ? (uint8_t)check == 0 : check == GOOD_FCS; }
 
 static uint8_t *put(uint8_t level, uint8_t x, uint8_t *to)
 {
@@ -13,25 +27,43 @@ static uint8_t *put(uint8_t level, uint8_t x, uint8_t *to)
     return to;
 }
 
-/* The frame's length, or 0 for every refusal. Room is asked for the longest frame of so much data. */
-size_t plain_qaft_write(uint8_t level, bool at_flag, const uint8_t *octets, size_t length, uint8_t *out, size_t room)
+BY_KIND uint8_t *put_check(uint8_t kind, uint8_t level, unsigned check, uint8_t *to)
 {
-    uint8_t sum = 0;
+    if (kind == SUM)
+        return put(level, (uint8_t)-check, to);
+    to = put(level, (uint8_t)~check, to);
+    return put(level, (uint8_t)(~check >> 8), to);
+}
+
+BY_KIND size_t write_by(uint8_t kind, uint8_t level, bool at_flag, const uint8_t *octets, size_t length, uint8_t *out, size_t room)
+{
+    unsigned check = preset(kind);
     uint8_t *to = out;
-    if (level > 1 || length == 0 || length >= LONGEST || room < 2 * length + 4)
+    if (level > 1 || length == 0 || length > HASFANDUR_QAFT_MAX_DATA || room < 2 * (length + check_size(kind)) + 2)
         return 0;
     if (!at_flag)
         *to++ = FLAG;
     for (size_t i = 0; i < length; i++) {
-        sum = (uint8_t)(sum + octets[i]);
+        check = after(kind, check, octets[i]);
         to = put(level, octets[i], to);
     }
-    to = put(level, (uint8_t)-sum, to);
+    to = put_check(kind, level, check, to);
     *to++ = FLAG;
     return (size_t)(to - out);
 }
 
-static uint8_t judge(const struct plain_reader *r)
+/* The frame's length, or 0 for every refusal. Room is asked for the longest frame of so much data. */
+size_t plain_qaft_write(uint8_t level, bool at_flag, const uint8_t *octets, size_t length, uint8_t *out, size_t room)
+{
+    return write_by(SUM, level, at_flag, octets, length, out, room);
+}
+
+size_t plain_aft_write(uint8_t level, bool at_flag, const uint8_t *octets, size_t length, uint8_t *out, size_t room)
+{
+    return write_by(FCS, level, at_flag, octets, length, out, room);
+}
+
+BY_KIND uint8_t judge(uint8_t kind, const struct plain_reader *r)
 {
     if (r->pending)
         return 11;
@@ -39,26 +71,32 @@ static uint8_t judge(const struct plain_reader *r)
         return 0;
     if (r->bad_pair)
         return 16;
-    if (r->count > LONGEST)
+    if (r->count > HASFANDUR_QAFT_MAX_DATA + check_size(kind))
         return 12;
-    if (r->count == 1)
+    if (r->count <= check_size(kind))
         return 13;
-    return r->sum == 0 ? 10 : 14;
+    return good(kind, r->check) ? 10 : 14;
 }
 
-/* The state and the store are trusted. */
-struct plain_answer plain_qaft_read(struct plain_reader r, const uint8_t *chunk, size_t length, uint8_t *store)
+BY_KIND struct plain_reader fresh(uint8_t kind, uint8_t level, bool flag)
 {
+    return (struct plain_reader){.level = level, .flag = flag, .check = preset(kind)};
+}
+
+/* gcc is told that few octets stand behind an escape: without it, it moved the usual octet out of the loop's way here. */
+BY_KIND struct plain_answer read_by(uint8_t kind, struct plain_reader r, const uint8_t *chunk, size_t length, uint8_t *store)
+{
+    const size_t longest = HASFANDUR_QAFT_MAX_DATA + check_size(kind);
     for (size_t i = 0; i < length; i++) {
         uint8_t x = chunk[i];
         if (x == FLAG) {
-            uint8_t number = judge(&r);
-            size_t data = number == 10 ? r.count - 1 : 0;
-            r = (struct plain_reader){.level = r.level, .flag = true};
+            uint8_t number = judge(kind, &r);
+            size_t data = number == 10 ? r.count - check_size(kind) : 0;
+            r = fresh(kind, r.level, true);
             if (number != 0)
                 return (struct plain_answer){number, i + 1, data, r};
         } else if (r.flag && !plain_flow_control(r.level, x)) {
-            if (r.pending) {
+            if (__builtin_expect(r.pending, false)) {
                 x ^= MASK;
                 r.pending = false;
                 r.bad_pair |= !plain_escaped(r.level, x);
@@ -66,14 +104,29 @@ struct plain_answer plain_qaft_read(struct plain_reader r, const uint8_t *chunk,
                 r.pending = true;
                 continue;
             }
-            if (r.count < LONGEST)
+            if (r.count < longest)
                 store[r.count] = x;
-            if (r.count <= LONGEST)
+            if (r.count <= longest)
                 r.count++;
-            r.sum = (uint8_t)(r.sum + x);
+            r.check = after(kind, r.check, x);
         }
     }
     return (struct plain_answer){15, length, 0, r};
+}
+
+struct plain_reader plain_qaft_fresh(uint8_t level) { return fresh(SUM, level, false); }
+
+struct plain_reader plain_aft_fresh(uint8_t level) { return fresh(FCS, level, false); }
+
+/* The state and the store are trusted. */
+struct plain_answer plain_qaft_read(struct plain_reader r, const uint8_t *chunk, size_t length, uint8_t *store)
+{
+    return read_by(SUM, r, chunk, length, store);
+}
+
+struct plain_answer plain_aft_read(struct plain_reader r, const uint8_t *chunk, size_t length, uint8_t *store)
+{
+    return read_by(FCS, r, chunk, length, store);
 }
 
 /* The link's timer with something queued, by the header's types; the link is trusted. */
@@ -143,8 +196,6 @@ uint8_t plain_sum_at_end(const uint8_t *octets, size_t length)
     return (uint8_t)sum;
 }
 
-static uint16_t table[256];
-
 void plain_make_table(void)
 {
     for (unsigned k = 0; k < 256; k++) {
@@ -158,9 +209,9 @@ void plain_make_table(void)
 /* the usual byte table */
 uint16_t plain_check_by_table(const uint8_t *octets, size_t length)
 {
-    uint16_t c = 0xFFFF;
+    unsigned c = 0xFFFF;
     for (size_t i = 0; i < length; i++)
-        c = (uint16_t)(table[(c ^ octets[i]) & 0xFF] ^ (c >> 8));
+        c = by_table(c, octets[i]);
     return (uint16_t)~c;
 }
 

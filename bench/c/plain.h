@@ -18,7 +18,7 @@ struct plain_reader {
     bool flag;
     bool pending;
     size_t count;
-    uint8_t sum;
+    unsigned check;
     bool bad_pair;
 };
 
@@ -29,8 +29,14 @@ struct plain_answer {
     struct plain_reader reader;
 };
 
+/* QAFT, and AFT: the same with the two-octet check sequence, by a byte table. Each has functions of its own, so nobody asks for the
+ * kind at run time. */
 size_t plain_qaft_write(uint8_t level, bool at_flag, const uint8_t *octets, size_t length, uint8_t *out, size_t room);
+size_t plain_aft_write(uint8_t level, bool at_flag, const uint8_t *octets, size_t length, uint8_t *out, size_t room);
+struct plain_reader plain_qaft_fresh(uint8_t level);
+struct plain_reader plain_aft_fresh(uint8_t level);
 struct plain_answer plain_qaft_read(struct plain_reader reader, const uint8_t *chunk, size_t length, uint8_t *store);
+struct plain_answer plain_aft_read(struct plain_reader reader, const uint8_t *chunk, size_t length, uint8_t *store);
 size_t plain_kiss_write(bool at_flag, const uint8_t *payload, size_t length, uint8_t *out, size_t room);
 hasfandur_kiss_answer plain_kiss_read(hasfandur_kiss_reader reader, const uint8_t *chunk, size_t length, uint8_t *store);
 hasfandur_counts plain_sheet_count(uint8_t level, const uint8_t *capture, size_t length);

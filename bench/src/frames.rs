@@ -1,5 +1,5 @@
 //! What the rows of QAFT and KISS share: data for many frames, turns over them, and turns over a line.
-use second::qaft::FLOW_CONTROL;
+use second::qaft::{ESCAPE, FLAG, FLOW_CONTROL};
 use second::reader::Answer;
 use second::rng::Rng;
 
@@ -12,6 +12,14 @@ pub fn payloads(octets: usize, size: usize, make: impl Fn(&Rng, usize) -> Vec<u8
     (0..octets / size).map(|_| make(&rng, size)).collect()
 }
 
+/// Every second octet is one that QAFT escapes.
+pub fn escaped(rng: &Rng) -> u8 {
+    if rng.once_in(2) {
+        return rng.pick(&[FLAG, ESCAPE]);
+    }
+    rng.octet()
+}
+
 /// The frames of all data one after the other, and the sum of their lengths.
 pub fn writing(
     payloads: &[Vec<u8>],
@@ -19,6 +27,19 @@ pub fn writing(
 ) -> impl FnMut() -> usize {
     let (payloads, mut out) = (payloads.to_vec(), vec![0; ROOM]);
     move || payloads.iter().map(|data| write(data, &mut out)).sum()
+}
+
+/// The same, once the writer was seen to write the very octets of a line.
+pub fn writing_line(
+    payloads: &[Vec<u8>],
+    line_of_them: &[u8],
+    write: impl Fn(&[u8], &mut [u8]) -> usize,
+) -> impl FnMut() -> usize {
+    assert!(
+        line(&[], payloads, &write) == line_of_them,
+        "another line is written"
+    );
+    writing(payloads, write)
 }
 
 /// The frames of all data, on a line that starts with the given octets.
@@ -81,5 +102,32 @@ pub fn reading<S: Copy>(
         let add = |answer: &Answer, _: &[u8]| octets += answer.length;
         read_line(&line, chunk, fresh, &mut store, &read, add);
         octets
+    }
+}
+
+/// A line, read in chunks of a size, and the data of its frames, which a reader puts down at a place of the store.
+pub struct Line<'a> {
+    pub octets: &'a [u8],
+    pub chunk: usize,
+    pub data: &'a [Vec<u8>],
+    pub place: usize,
+}
+
+impl Line<'_> {
+    /// The line read, and the sum of its frames' lengths, once the reader was seen to read the very data.
+    pub fn read_by<S: Copy>(
+        &self,
+        fresh: S,
+        read: impl Fn(S, &[u8], &mut [u8]) -> (S, Answer),
+    ) -> impl FnMut() -> usize {
+        let (mut store, mut found) = (vec![0; ROOM], Vec::new());
+        let keep = |a: &Answer, store: &[u8]| {
+            if a.number == 10 {
+                found.push(store[self.place..][..a.length].to_vec());
+            }
+        };
+        read_line(self.octets, self.chunk, fresh, &mut store, &read, keep);
+        assert!(found == self.data, "other data are read");
+        reading(self.octets, self.chunk, fresh, read)
     }
 }

@@ -1,11 +1,10 @@
 //! KISS: the frame writer and the chunk reader, with few octets that are escaped and with many.
 use crate::archive::kiss as archive;
-use crate::frames::{self, ROOM};
+use crate::frames::{self, writing_line, Line};
 use crate::others::kiss as others;
 use crate::row::Row;
 use second::kiss::reader::State;
 use second::kiss::{self, FEND, FESC};
-use second::reader::Answer;
 use second::rng::Rng;
 
 /// The payload octets of a turn are about this many. Of an eighth of them the machine learns many places of escapes from turn to
@@ -45,32 +44,19 @@ fn payloads(size: usize, once_in: usize) -> Vec<Vec<u8>> {
     })
 }
 
-/// A writer's turn, once it was seen to write the very octets of a line.
-fn writing(
-    payloads: &[Vec<u8>],
-    line: &[u8],
-    write: impl Fn(&[u8], &mut [u8]) -> usize,
-) -> impl FnMut() -> usize {
-    assert!(
-        frames::line(&[], payloads, &write) == line,
-        "another line is written"
-    );
-    frames::writing(payloads, write)
-}
-
 /// Frames have both flags here, since direwolf always writes both.
 fn writer(what: &'static str, size: usize, once_in: usize) -> Row {
     let payloads = payloads(size, once_in);
     let second = |p: &[u8], out: &mut [u8]| kiss::write(false, p, out).length;
     let line = frames::line(&[], &payloads, second);
-    let ours = writing(&payloads, &line, |p, out| {
+    let ours = writing_line(&payloads, &line, |p, out| {
         archive::write(false, p, out).length
     });
     let row = Row::new(what, "octet", OCTETS / size * size, ours)
-        .beside("second", writing(&payloads, &line, second))
+        .beside("second", writing_line(&payloads, &line, second))
         .beside(
             "plain C",
-            writing(&payloads, &line, |p, out| others::write(false, p, out)),
+            writing_line(&payloads, &line, |p, out| others::write(false, p, out)),
         );
     #[cfg(direwolf)]
     let row = row.beside("direwolf", direwolf_writing(&payloads, &line));
@@ -81,48 +67,27 @@ fn writer(what: &'static str, size: usize, once_in: usize) -> Row {
 #[cfg(direwolf)]
 fn direwolf_writing(payloads: &[Vec<u8>], line: &[u8]) -> impl FnMut() -> usize {
     let typed: Vec<_> = payloads.iter().map(|p| [&[0], &p[..]].concat()).collect();
-    writing(&typed, line, others::direwolf::write)
+    writing_line(&typed, line, others::direwolf::write)
 }
 
-/// A reader's turn on a whole line, once it was seen to read the very payloads.
-fn reading<S: Copy>(
-    line: &[u8],
-    payloads: &[Vec<u8>],
-    fresh: S,
-    read: impl Fn(S, &[u8], &mut [u8]) -> (S, Answer),
-) -> impl FnMut() -> usize {
-    let (mut store, mut found) = (vec![0; ROOM], Vec::new());
-    let keep = |a: &Answer, store: &[u8]| {
-        if a.number == 10 {
-            found.push(store[1..=a.length].to_vec());
-        }
-    };
-    frames::read_line(line, line.len(), fresh, &mut store, &read, keep);
-    assert!(found == payloads, "other payloads are read");
-    frames::reading(line, line.len(), fresh, read)
-}
-
-/// One flag between two frames.
+/// One flag between two frames. In a store the type octet stands before the payload.
 fn reader(what: &'static str, size: usize, once_in: usize) -> Row {
     let payloads = payloads(size, once_in);
-    let line = frames::line(&[FEND], &payloads, |p, out| {
+    let octets = frames::line(&[FEND], &payloads, |p, out| {
         kiss::write(true, p, out).length
     });
+    let line = Line {
+        octets: &octets,
+        chunk: octets.len(),
+        data: &payloads,
+        place: 1,
+    };
+    let ours = line.read_by(archive::fresh(), archive::read);
     let fresh = State::default();
-    let ours = reading(&line, &payloads, archive::fresh(), archive::read);
-    let row = Row::new(what, "octet", line.len(), ours)
-        .beside(
-            "second",
-            reading(&line, &payloads, fresh, kiss::reader::read),
-        )
-        .beside(
-            "plain C",
-            reading(&line, &payloads, fresh.into(), others::read),
-        );
+    let row = Row::new(what, "octet", octets.len(), ours)
+        .beside("second", line.read_by(fresh, kiss::reader::read))
+        .beside("plain C", line.read_by(fresh.into(), others::read));
     #[cfg(direwolf)]
-    let row = row.beside(
-        "direwolf",
-        reading(&line, &payloads, (), others::direwolf::read),
-    );
+    let row = row.beside("direwolf", line.read_by((), others::direwolf::read));
     row
 }

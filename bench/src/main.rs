@@ -36,6 +36,9 @@ fn main() {
     if cfg!(not(direwolf)) {
         println!("direwolf is not there: no row has it");
     }
+    if cfg!(not(openconnect)) {
+        println!("openconnect is not there: no row has it");
+    }
     println!("ns of CPU, best of {rounds}; ratio: the best other's time over ours");
     let rows = [qaft::ROWS, kiss::ROWS, afp::ROWS, link::ROWS, sheet::ROWS];
     for make in rows.into_iter().flatten() {

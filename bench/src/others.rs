@@ -1,29 +1,11 @@
 //! The contenders in C, with safe wrappers: plain C (c/plain.c), and packaged libraries where they are there.
 pub mod kiss;
+pub mod qaft;
 pub mod sheet;
 
 use crate::archive::link::{Link, Outcome};
 use second::afp::{Part, Reading};
-use second::reader::{Answer, State};
 use second::Written;
-
-#[repr(C)]
-struct RawReader {
-    level: u8,
-    flag: bool,
-    pending: bool,
-    count: usize,
-    sum: u8,
-    bad_pair: bool,
-}
-
-#[repr(C)]
-struct RawAnswer {
-    number: u8,
-    taken: usize,
-    length: usize,
-    reader: RawReader,
-}
 
 #[repr(C)]
 struct RawWritten {
@@ -50,20 +32,6 @@ struct RawReading {
 }
 
 extern "C" {
-    fn plain_qaft_write(
-        level: u8,
-        at_flag: bool,
-        octets: *const u8,
-        length: usize,
-        out: *mut u8,
-        room: usize,
-    ) -> usize;
-    fn plain_qaft_read(
-        reader: RawReader,
-        chunk: *const u8,
-        length: usize,
-        store: *mut u8,
-    ) -> RawAnswer;
     fn plain_sum_by_octets(octets: *const u8, length: usize) -> u8;
     fn plain_sum_at_end(octets: *const u8, length: usize) -> u8;
     fn plain_dlc_timer(link: Link, reply: *mut u8, reply_length: usize) -> Outcome;
@@ -97,39 +65,6 @@ pub fn start() {
     unsafe { plain_make_table() }
     #[cfg(osmocom)]
     osmocom::start();
-}
-
-pub fn qaft_write(level: u8, at_flag: bool, data: &[u8], out: &mut [u8]) -> usize {
-    let (place, room) = (out.as_mut_ptr(), out.len());
-    unsafe { plain_qaft_write(level, at_flag, data.as_ptr(), data.len(), place, room) }
-}
-
-/// Reads up to the first report. The state is one that this function gave back.
-pub fn qaft_read(from: State, chunk: &[u8], store: &mut [u8]) -> (State, Answer) {
-    assert!(store.len() >= second::reader::STORE);
-    let reader = RawReader {
-        level: from.level,
-        flag: from.flag,
-        pending: from.pending,
-        count: from.count,
-        sum: from.sum,
-        bad_pair: from.bad_pair,
-    };
-    let raw = unsafe { plain_qaft_read(reader, chunk.as_ptr(), chunk.len(), store.as_mut_ptr()) };
-    let state = State {
-        level: raw.reader.level,
-        flag: raw.reader.flag,
-        pending: raw.reader.pending,
-        count: raw.reader.count,
-        sum: raw.reader.sum,
-        bad_pair: raw.reader.bad_pair,
-    };
-    let answer = Answer {
-        number: raw.number,
-        taken: raw.taken,
-        length: raw.length,
-    };
-    (state, answer)
 }
 
 pub fn dlc_timer(link: Link, reply: &mut [u8]) -> Outcome {

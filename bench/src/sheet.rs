@@ -1,17 +1,18 @@
 //! The line sheet: what a capture counts, held whole, with few octets that are escaped and with many.
-use crate::archive::sheet as archive;
-use crate::frames;
+use crate::archive::{qaft_fresh, qaft_read, sheet as archive};
+use crate::frames::{self, escaped};
 use crate::others::sheet as others;
-use crate::qaft;
 use crate::row::Row;
+use second::check::Check;
 use second::link::{DACK, DATA};
-use second::qaft::{ESCAPE, FLAG};
-use second::reader::State;
+use second::qaft::FLAG;
 use second::rng::Rng;
 use second::sheet::{self, COUNTS};
 
 /// The data octets of a capture are about this many: what a turn learns of a short one helps it in the next (kiss.rs).
 const OCTETS: usize = 1 << 20;
+/// The line sheet is of QAFT alone.
+const SUM: u8 = Check::Sum.kind();
 
 // a line each, the longer ones too
 #[rustfmt::skip]
@@ -23,14 +24,6 @@ pub const ROWS: &[fn() -> Row] = &[
     || row("sheet count at level 1, frames of 2,560", 1, 2560, Rng::octet),
     || row("sheet count at level 1, frames of 20", 1, 20, Rng::octet),
 ];
-
-/// Every second octet is one that is escaped.
-fn escaped(rng: &Rng) -> u8 {
-    if rng.once_in(2) {
-        return rng.pick(&[FLAG, ESCAPE]);
-    }
-    rng.octet()
-}
 
 /// A packet: DATA with a number that counts on or comes again, one in eight with the first octet of a DACK.
 fn packet(rng: &Rng, size: usize, octet: fn(&Rng) -> u8) -> Vec<u8> {
@@ -50,13 +43,13 @@ fn weighed(counts: [u64; COUNTS]) -> usize {
 fn row(what: &'static str, level: u8, size: usize, octet: fn(&Rng) -> u8) -> Row {
     let packets = frames::payloads(OCTETS, size, |rng, n| packet(rng, n, octet));
     let line = frames::line(&[FLAG], &packets, |d, out| {
-        second::qaft::write(level, true, d, out).length
+        second::qaft::write(level, SUM, true, d, out).length
     });
     let strewn = frames::strewn(&line);
     let counts = archive::count(level, &strewn).counts;
     assert_eq!(others::count(level, &strewn), counts, "{what}: strewn in");
     let (ours, by_second, plain) = (line.clone(), line.clone(), line.clone());
-    let reading = frames::reading(&line, usize::MAX, State::fresh(level), qaft::ours);
+    let reading = frames::reading(&line, usize::MAX, qaft_fresh(level, SUM), qaft_read);
     Row::new(what, "octet", line.len(), move || {
         weighed(archive::count(level, &ours).counts)
     })
