@@ -8,8 +8,8 @@ use lib.Dec.{eqb}
 abbrev pub maxLevel : ℕ
 maxLevel = 1
 
--- "check kind 0 (QAFT) or 1 (this)" (2026-07): a check octet by the sum of the data, or the two-octet check sequence of ISO 3309. The definitions take every
--- other number for 0; writer and reader refuse it
+-- check kinds, "0 (QAFT) or 1 (this)" (2026-07): a check octet by the sum of the data, or the two-octet check sequence of ISO 3309. The definitions take
+-- every other number for 0; writer and reader refuse it
 abbrev pub sumKind : ℕ
 sumKind = 0
 

@@ -36,8 +36,8 @@ scanCall r xs m = callOf (scan action r xs m)
 unfoldable pub refusal : Reader → (m : List ℕ) (n : ℕ) → Call
 refusal r m n = record { answer = record { outcome = Refused n; taken = 0; reader = r }; buffer = m }
 
--- the reader's refusals, "order 6, 4, 5", and "7 check kind not 0 or 1, judged after 6" (2026-07); "the store is 2,562 octets" with the check sequence; room
--- is the length of the buffer
+-- the reader's refusals, "order 6, 4, 5", and "7 check kind not 0 (QAFT) or 1 (this), judged after 6" (2026-07); with the check sequence "the store is 2,562
+-- octets"; room is the length of the buffer
 unfoldable pub refusals : Reader → (room : ℕ) → List Refusal
 refusals r room =
     (ltb maxLevel (r .level), badLevel)

@@ -10,7 +10,7 @@ use Rattle.qaft.specs.Frame.{frame}
 use Rattle.qaft.specs.Limits.{maxLevel, maxKind, maxData}
 use Rattle.qaft_write.specs.Answer.{Outcome, refusal, wrote}
 
--- the writer's refusals, "order 6, 1, 2, 3", and "7 check kind not 0 or 1, judged after 6" (2026-07); room is the length of the out buffer
+-- the writer's refusals, "order 6, 1, 2, 3", and "7 check kind not 0 (QAFT) or 1 (this), judged after 6" (2026-07); room is the length of the out buffer
 unfoldable pub refusals : (level kind : ℕ) (atFlag : Bool) (d : List ℕ) (room : ℕ) → List Refusal
 refusals level kind atFlag d room =
     (ltb maxLevel level, badLevel)
