@@ -25,7 +25,7 @@ use Rattle.qaft_report.specs.declared.Report.the-variants.{Frame}
 use Rattle.qaft_rules.specs.Rules.{verdict, isBadPair, rules, framed}
 
 -- what the verdict of a frame with k data octets tells
-record IsFrame (kind : ℕ) (d b : Bool) (n a k : ℕ) : Type 0 where
+pub record IsFrame (kind : ℕ) (d b : Bool) (n a k : ℕ) : Type 0 where
   pub dangling : d ≡ false
   pub bad : b ≡ false
   pub checked : a ≡ checkBy kind .good
@@ -53,7 +53,7 @@ module _ (level kind : ℕ) where
   }
 
   module _ (d : List ℕ) (u : Unescaped) (e : judged (rules level kind) u ≡ framed d) where
-    is-frame : IsFrame kind (u .dangling) (u .bad) (capped (rules level kind) (length (u .octets))) (checkOf (rules level kind) (u .octets)) (length d)
+    pub is-frame : IsFrame kind (u .dangling) (u .bad) (capped (rules level kind) (length (u .octets))) (checkOf (rules level kind) (u .octets)) (length d)
     unfolding judged
     is-frame = frame-verdict kind _ _ _ _ _ (ap (λ (r : Reported Report). r .report) e)
 

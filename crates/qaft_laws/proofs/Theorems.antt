@@ -41,7 +41,7 @@ use Rattle.qaft.specs.Check.{checkBy}
 use Rattle.qaft.specs.Escape.{isFlowControl, writing}
 use Rattle.qaft.specs.Frame.{sealed, body, line}
 use Rattle.qaft.specs.Limits.{fcsKind, maxLevel, maxKind, maxData, maxSegmentOf, countCapOf}
-use Rattle.qaft_laws.proofs.Changed.{changed-is-a-bad-check}
+use Rattle.qaft_laws.proofs.Changed.{changed-is-a-bad-check, lost-flag-is-no-frame}
 use Rattle.qaft_laws.proofs.Faithful.{canonical, faithful}
 use Rattle.qaft_laws.proofs.Reader.{fit-view, action-keeps, readScan-scan, calls, fit-or-refused}
 use Rattle.qaft_laws.proofs.Rules.{lawful, undoes, sealed-accepted, all-accepted}
@@ -241,3 +241,7 @@ pub burst-is-a-bad-check : (level : ℕ) (d ys : List ℕ) → 1 ≤ length d �
     → (t : List ℕ) → unescape (rules level fcsKind) (unskipped (rules level fcsKind) t) ≡ record { octets = ys; dangling = false; bad = false }
     → reportsOfSegment (rules level fcsKind) t ≡ record { report = BadCheck; octets = [] } ∷ []
 burst-is-a-bad-check = changed-is-a-bad-check
+
+-- 10. And a flag that was lost: what two frames have between their flags, with none between the two, reads as no frame.
+pub two-frames-are-none : (level : ℕ) (d e : List ℕ) → Octets e → (f : List ℕ) → reportsOfSegment (rules level fcsKind) (body level fcsKind d ++ body level fcsKind e) ≡ framed f ∷ [] → ⊥
+two-frames-are-none = lost-flag-is-no-frame
