@@ -42,7 +42,7 @@ added kind n a x =
     (cond (eqb kind registerCheck) (feed a x)
     (cond (eqb n 0) x a))
 
--- whether octets can lead to it: a sum modulo 256 is below 256
+-- whether a number can be one: a sum modulo 256 is below 256
 abbrev pub isCheckOf : (kind a : ℕ) → Bool
 isCheckOf kind a = cond (eqb kind sumCheck) (ltb a 256) true
 

@@ -16,7 +16,7 @@ pub(crate) fn blank(kind: u8) -> u16
     0
 }
 
-// Whether some octets lead to a check.
+// Whether a number can be a check.
 pub(crate) fn is_check(kind: u8, check: u16) -> bool
     ensures { λ r. ⌜ r ≡ isCheckOf kind check ⌝ }
 {

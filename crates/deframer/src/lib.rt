@@ -210,7 +210,7 @@ impl Rule {
         }
     }
 
-    // Whether some line leads to a state: no more than one octet past the cap; a check that octets lead to; of no octets no check and no
+    // Whether a state is well formed: no more than one octet past the cap; what can be a check; of no octets no check and no
     // bad pair; before any flag no segment. A state of no octets is looked at first: with short frames most are.
     pub fn well_formed(self, s: State) -> bool
         ensures { λ r. ⌜ r ≡ not (malformed (rulesOf self) (view s)) ⌝ }

@@ -27,7 +27,7 @@ pub record Sound (n : ℕ) (c : Check) : Type 0 where
   -- its octets, and no others, make it good
   pub good-is : (d : List ℕ) → running c (c .blank) (d ++ c .octets d) ≡ c .good
   pub good-only : (d t : List ℕ) → Octets t → length t ≡ n → running c (c .blank) (d ++ t) ≡ c .good → t ≡ c .octets d
-  -- and what the running check is, octets can lead to
+  -- and what runs along is a check
   pub blank-isCheck : c .isCheck (c .blank) ≡ true
   pub added-isCheck : (a x : ℕ) → c .isCheck (c .add a x) ≡ true
 
@@ -79,34 +79,27 @@ fcs-sound = record {
 }
 
 -- ---- of each kind
-pub sound : (kind : ℕ) → Sound (checkSize kind) (checkBy kind)
-sound kind = by (eqb kind fcsKind)
+-- what holds by the sum and by the check sequence holds by the kind
+pub by-kind : (P : Bool → Type 0) → P true → P false → (kind : ℕ) → P (eqb kind fcsKind)
+by-kind P ofFcs ofSum kind = of (eqb kind fcsKind)
   where
-    by : (b : Bool) → Sound (cond b fcsSize sumSize) (cond b fcsCheck sumCheck)
-    by true = fcs-sound
-    by false = sum-sound
+    of : (b : Bool) → P b
+    of true = ofFcs
+    of false = ofSum
+
+pub sound : (kind : ℕ) → Sound (checkSize kind) (checkBy kind)
+sound = by-kind (λ (b : Bool). Sound (cond b fcsSize sumSize) (cond b fcsCheck sumCheck)) fcs-sound sum-sound
 
 -- one or two
 pub check-size-bounds : (kind : ℕ) → (1 ≤ checkSize kind) × (checkSize kind ≤ fcsSize)
-check-size-bounds kind = by (eqb kind fcsKind)
-  where
-    by : (b : Bool) → (1 ≤ cond b fcsSize sumSize) × (cond b fcsSize sumSize ≤ fcsSize)
-    by true = omega arith
-    by false = omega arith
+check-size-bounds = by-kind (λ (b : Bool). (1 ≤ cond b fcsSize sumSize) × (cond b fcsSize sumSize ≤ fcsSize)) (omega arith) (omega arith)
 
--- the code's two places hold them at the front
+-- the two places hold the check's octets at the front
 pub pair-front : (kind : ℕ) (d : List ℕ) → take (checkSize kind) (checkPair kind d) ≡ checkBy kind .octets d
 unfolding checkPair
-pair-front kind d = by (eqb kind fcsKind)
-  where
-    by : (b : Bool) → take (cond b fcsSize sumSize) (cond b (fcsCheck .octets d) (checkOctet d ∷ 0 ∷ [])) ≡ cond b fcsCheck sumCheck .octets d
-    by true = refl
-    by false = refl
+pair-front kind d =
+    by-kind (λ (b : Bool). take (cond b fcsSize sumSize) (take fcsSize (cond b fcsCheck sumCheck .octets d ++ (0 ∷ []))) ≡ cond b fcsCheck sumCheck .octets d) refl refl kind
 
 pub pair-length : (kind : ℕ) (d : List ℕ) → length (checkPair kind d) ≡ fcsSize
 unfolding checkPair
-pair-length kind d = by (eqb kind fcsKind)
-  where
-    by : (b : Bool) → length (cond b (fcsCheck .octets d) (checkOctet d ∷ 0 ∷ [])) ≡ fcsSize
-    by true = refl
-    by false = refl
+pair-length kind d = by-kind (λ (b : Bool). length (take fcsSize (cond b fcsCheck sumCheck .octets d ++ (0 ∷ []))) ≡ fcsSize) refl refl kind

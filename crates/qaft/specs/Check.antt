@@ -4,14 +4,15 @@
 --   sumCheck         what a check is made of and told by, by the sum
 --   fcsCheck         the same by the check sequence of ISO 3309 (2026-07)
 --   checkBy kind     that of a kind
---   checkPair kind d the check octets in two places, as the code holds them
+--   checkPair kind d the check octets in two places
 use Prim.Native.Nat.{ℕ, _+_, _-_, _%_}
 use mathlib.Core.Bool.{Bool, true}
-use mathlib.Core.List.{List, [], _∷_}
+use mathlib.Core.List.{List, [], _∷_, _++_}
 use lib.Dec.{ltb}
+use lib.ListN.{take}
 use Rattle.fcs.specs.Fcs.{preset, residue, feed, checkOctets}
 use Rattle.octets.specs.Sum.{sum}
-use Rattle.qaft.specs.Limits.{byKind}
+use Rattle.qaft.specs.Limits.{fcsSize, byKind}
 
 -- "the two's complement of their sum modulo 256"
 unfoldable pub checkOctet : List ℕ → ℕ
@@ -24,7 +25,7 @@ pub record Check : Type 0 where
   pub blank : ℕ
   pub add : (a x : ℕ) → ℕ
   pub good : ℕ
-  -- whether octets can lead to it
+  -- whether a number can be one
   pub isCheck : (a : ℕ) → Bool
 
 -- "data and check sum to 0 modulo 256"
@@ -40,6 +41,6 @@ fcsCheck = record { octets = λ d. checkOctets d; blank = preset; add = feed; go
 abbrev pub checkBy : (kind : ℕ) → Check
 checkBy kind = byKind kind sumCheck fcsCheck
 
--- the check octets in two places; where there is one, the second is 0
+-- these octets with a 0 behind them, in as many places as the longer check has
 unfoldable pub checkPair : (kind : ℕ) → List ℕ → List ℕ
-checkPair kind d = byKind kind (checkOctet d ∷ 0 ∷ []) (checkOctets d)
+checkPair kind d = take fcsSize (checkBy kind .octets d ++ (0 ∷ []))

@@ -1,6 +1,6 @@
 -- QAFT's rules are those of the rule that the reader hands to the shared loop. Assumes nothing.
 use Prim.Native.Nat.{ℕ}
-use mathlib.Core.Bool.{Bool, true, false, cond, not}
+use mathlib.Core.Bool.{Bool, true, cond, not}
 use mathlib.Core.Path.{_≡_, refl, sym, ap, _∙_}
 use borrow.Author.Tests.{eqb-true}
 use lib.Dec.{eqb}
@@ -8,36 +8,25 @@ use Rattle.common.proofs.Bools.{either}
 use Rattle.deframer.specs.Rule.{sumCheck, registerCheck, isSkipped, partnerOf, isBadPair, blankOf, added, isCheckOf, rulesOf}
 use Rattle.escapes.specs.Escapes.{isEscaped}
 use Rattle.framing.specs.Closing.{closing}
+use Rattle.qaft.proofs.Check.{by-kind}
 use Rattle.qaft.proofs.Escape.{flag-no-flow-control, escape-no-flow-control, partner-escaped}
 use Rattle.qaft.specs.Check as qaft
 use Rattle.qaft.specs.Check.{fcsCheck, checkBy}
 use Rattle.qaft.specs.Escape.{flag, escapeOctet, masked, isFlowControl, escapesOf}
-use Rattle.qaft.specs.Limits.{fcsKind, maxSegmentOf}
+use Rattle.qaft.specs.Limits.{maxSegmentOf}
 use Rattle.qaft_read.specs.Scanned.{runningCheck, rule}
 use Rattle.qaft_rules.specs.Rules as rules
 
--- ---- the running check by its kind: before any octet, after one more, and whether octets can lead to it
+-- ---- the running check by its kind: before any octet, after one more, and which numbers can be one
 pub blank-is : (kind : ℕ) → blankOf (runningCheck kind) ≡ checkBy kind .blank
-blank-is kind = by (eqb kind fcsKind)
-  where
-    by : (b : Bool) → blankOf (cond b registerCheck sumCheck) ≡ cond b fcsCheck qaft.sumCheck .blank
-    by true = refl
-    by false = refl
+blank-is = by-kind (λ (b : Bool). blankOf (cond b registerCheck sumCheck) ≡ cond b fcsCheck qaft.sumCheck .blank) refl refl
 
 added-is : (kind n a x : ℕ) → added (runningCheck kind) n a x ≡ checkBy kind .add a x
 unfolding added
-added-is kind n a x = by (eqb kind fcsKind)
-  where
-    by : (b : Bool) → added (cond b registerCheck sumCheck) n a x ≡ cond b fcsCheck qaft.sumCheck .add a x
-    by true = refl
-    by false = refl
+added-is kind n a x = by-kind (λ (b : Bool). added (cond b registerCheck sumCheck) n a x ≡ cond b fcsCheck qaft.sumCheck .add a x) refl refl kind
 
 isCheck-is : (kind a : ℕ) → isCheckOf (runningCheck kind) a ≡ checkBy kind .isCheck a
-isCheck-is kind a = by (eqb kind fcsKind)
-  where
-    by : (b : Bool) → isCheckOf (cond b registerCheck sumCheck) a ≡ cond b fcsCheck qaft.sumCheck .isCheck a
-    by true = refl
-    by false = refl
+isCheck-is kind a = by-kind (λ (b : Bool). isCheckOf (cond b registerCheck sumCheck) a ≡ cond b fcsCheck qaft.sumCheck .isCheck a) refl refl kind
 
 -- ---- the rest
 -- skipped is flow control, which is neither flag nor escape

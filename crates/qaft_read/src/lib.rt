@@ -87,7 +87,7 @@ impl Reader {
         }
     }
 
-    // Whether some line leads to this state.
+    // Whether the state is well formed.
     fn well_formed(self) -> bool
         ensures { λ r. ⌜ r ≡ not (malformed self) ⌝ }
     {

@@ -14,7 +14,7 @@ use Rattle.deframer.specs.declared.Rule.{Rule}
 use Rattle.deframer.specs.declared.State.{State}
 use Rattle.framing.specs.Step.{malformed}
 
--- octets can lead to the check before any
+-- the check before any octet can be one
 blank-isCheck : (kind : ℕ) → isCheckOf kind (blankOf kind) ≡ true
 blank-isCheck kind =
     either (λ (b : Bool). b ≡ true) (eqb kind sumCheck) (λ e. ap (λ (k : ℕ). ltb (blankOf k) 256) (eqb-true kind sumCheck e)) (λ _. refl)
