@@ -45,7 +45,7 @@ enum hasfandur_number {
     HASFANDUR_QAFT_DATA_TOO_LONG = 2, /* QAFT writer, KISS too: over 2,560 data octets */
     HASFANDUR_QAFT_OUT_TOO_SMALL = 3, /* QAFT writer and conversion to QAFT: `out` is shorter than this very frame or line */
     HASFANDUR_QAFT_BUFFER_TOO_SMALL = 4, /* QAFT reader, KISS too: `buffer` is under 2,561 octets, with the check sequence 2,562 */
-    HASFANDUR_QAFT_BAD_STATE = 5, /* QAFT reader, KISS too: a state that no line leads to */
+    HASFANDUR_QAFT_BAD_STATE = 5, /* QAFT reader, KISS too: a state that is not well formed */
     HASFANDUR_QAFT_BAD_LEVEL = 6, /* QAFT writer, reader, conversions and line sheet: level not 0 or 1 */
     HASFANDUR_QAFT_BAD_KIND = 7, /* QAFT writer and reader: check kind not 0 or 1 */
     HASFANDUR_QAFT_FRAME = 10, /* QAFT reader's report, KISS too, no refusal: a frame */
@@ -194,8 +194,9 @@ HASFANDUR_MUST_USE hasfandur_qaft_reader hasfandur_qaft_fresh(uint8_t level, uin
  * flow control aside, octet for octet what hasfandur_qaft_write puts between the flags for its data, with the same kind of check.
  *
  * Refusals, the first that applies: HASFANDUR_QAFT_BAD_LEVEL, _BAD_KIND, _BUFFER_TOO_SMALL (under HASFANDUR_QAFT_MAX_SEGMENT octets,
- * with HASFANDUR_QAFT_FCS under HASFANDUR_QAFT_FCS_MAX_SEGMENT), _BAD_STATE (a state that no line leads to). A refusal takes nothing,
- * writes nothing, and gives the very state back that came.
+ * with HASFANDUR_QAFT_FCS under HASFANDUR_QAFT_FCS_MAX_SEGMENT), _BAD_STATE (a count over the one that stands for all above; with
+ * HASFANDUR_QAFT_SUM a check over 255; at a count of 0 another check than there is before any octet, or a bad pair; before any flag a
+ * count or a waiting 7D). A refusal takes nothing, writes nothing, and gives the very state back that came.
  */
 HASFANDUR_MUST_USE hasfandur_qaft_answer hasfandur_qaft_read(hasfandur_qaft_reader reader, const uint8_t *chunk,
                                                              size_t chunk_length, uint8_t *buffer, size_t buffer_length);
@@ -240,7 +241,7 @@ HASFANDUR_MUST_USE hasfandur_kiss_reader hasfandur_kiss_fresh(void);
  * HASFANDUR_QAFT_FRAME, frames of another port or command as HASFANDUR_KISS_SKIPPED; a chunk used up as HASFANDUR_QAFT_USED_UP.
  *
  * Refusals, the first that applies: HASFANDUR_QAFT_BUFFER_TOO_SMALL (under HASFANDUR_KISS_MAX_SEGMENT octets),
- * HASFANDUR_QAFT_BAD_STATE (a state that no line leads to). A refusal takes nothing, writes nothing, and gives the very state back
+ * HASFANDUR_QAFT_BAD_STATE (a state that is not well formed). A refusal takes nothing, writes nothing, and gives the very state back
  * that came.
  */
 HASFANDUR_MUST_USE hasfandur_kiss_answer hasfandur_kiss_read(hasfandur_kiss_reader state, const uint8_t *chunk, size_t chunk_length,
