@@ -62,6 +62,7 @@ FIELD(hasfandur_dlc_link, state, 0, 1);
 FIELD(hasfandur_dlc_link, queue, 8, 3968);
 FIELD(hasfandur_dlc_link, base, 3976, 1);
 FIELD(hasfandur_dlc_link, expected, 3977, 1);
+FIELD(hasfandur_dlc_link, edition, 3978, 1);
 
 static_assert(sizeof(hasfandur_dlc_answer) == 136, "hasfandur_dlc_answer");
 FIELD(hasfandur_dlc_answer, number, 0, 1);

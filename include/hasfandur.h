@@ -24,8 +24,8 @@ extern "C" {
 
 /* The version, and the same as one number to compare: 10000 for the first part, 100 for the second. */
 /* begin version: written by include/numbers */
-#define HASFANDUR_VERSION "0.9.0"
-#define HASFANDUR_VERSION_NUMBER 900
+#define HASFANDUR_VERSION "0.10.0"
+#define HASFANDUR_VERSION_NUMBER 1000
 /* end version */
 
 /* On calls that give a state or a link back: who drops it goes on with the old one. */
@@ -36,7 +36,7 @@ extern "C" {
 #endif
 
 /* The numbers given back. Where several refusals apply the first is given: QAFT writer 6, 7, 1, 2, 3; QAFT reader 6, 7, 4, 5; KISS
- * writer 1, 2, 64; KISS reader 4, 5; conversions 6, then 64 to KISS and 3 to QAFT; link 27, 26, 23, 21, 20, 22, 24; AFP reader 30
+ * writer 1, 2, 64; KISS reader 4, 5; conversions 6, then 64 to KISS and 3 to QAFT; fresh link 28; link 27, 26, 23, 21, 20, 22, 24; AFP reader 30
  * upward; AFP writer 33, 35, 36, 38, 34, 40, 41; line sheet 6, 50, 51. */
 /* begin numbers: written by include/numbers */
 enum hasfandur_number {
@@ -63,6 +63,7 @@ enum hasfandur_number {
     HASFANDUR_DLC_OTHER_NUMBER = 25, /* DLC arrival, no refusal: DATA with another number than the expected one; a DACK is sent */
     HASFANDUR_DLC_REPLY_TOO_SMALL = 26, /* DLC every event: `reply` is under 3,855 octets */
     HASFANDUR_DLC_BAD_LINK = 27, /* DLC every event: the link is not well formed */
+    HASFANDUR_DLC_BAD_EDITION = 28, /* DLC fresh link: edition not 1 or 2 */
     HASFANDUR_AFP_BAD_LENGTH = 30, /* AFP reader: frame not of 14 to 2,560 octets */
     HASFANDUR_AFP_BAD_CHECK = 31, /* AFP reader: check sequence */
     HASFANDUR_AFP_BAD_VERSION = 32, /* AFP reader: version not 1 */
@@ -267,6 +268,14 @@ typedef struct hasfandur_conversion {
 hasfandur_conversion hasfandur_qaft_to_kiss(uint8_t level, const uint8_t *capture, size_t capture_length, uint8_t *out, size_t out_length);
 hasfandur_conversion hasfandur_kiss_to_qaft(uint8_t level, const uint8_t *capture, size_t capture_length, uint8_t *out, size_t out_length);
 
+/* The editions of the supplier's firmware, which read the number x of a DACK in two ways. Both ends of a link use the same. */
+/* begin editions: written by include/numbers */
+enum hasfandur_dlc_edition {
+    HASFANDUR_DLC_EDITION_1 = 1, /* DACK x acknowledges through x-1 */
+    HASFANDUR_DLC_EDITION_2 = 2 /* DACK x acknowledges through x */
+};
+/* end editions */
+
 /* A DLC link's states. */
 /* begin states: written by include/numbers */
 enum hasfandur_dlc_state {
@@ -301,12 +310,13 @@ typedef struct hasfandur_dlc_queue {
 
 /*
  * One end of a DLC link, which goes from call to call by value: a hasfandur_dlc_state; the payloads that the other end has
- * not acknowledged; the oldest one's number (the next to be given where there is none); the number expected next.
+ * not acknowledged; the oldest one's number (the next to be given where there is none); the number expected next; the
+ * hasfandur_dlc_edition, which no event changes, RESET neither.
  *
  * It is well formed where the state is one of the four, the count at most HASFANDUR_DLC_SLOTS, each of the first `count` lengths
- * at most HASFANDUR_DLC_MAX_PAYLOAD, both numbers at most 15, the state HASFANDUR_DLC_STATE_WAIT exactly where the queue is not
- * empty, and both numbers 0 in HASFANDUR_DLC_STATE_IDLE and HASFANDUR_DLC_STATE_RESET. A fresh link is so, and what an event
- * gives back for such a link.
+ * at most HASFANDUR_DLC_MAX_PAYLOAD, both numbers at most 15, the edition one of the two, the state HASFANDUR_DLC_STATE_WAIT
+ * exactly where the queue is not empty, and both numbers 0 in HASFANDUR_DLC_STATE_IDLE and HASFANDUR_DLC_STATE_RESET. A fresh link
+ * is so, and what an event gives back for such a link. A link of zeros is not: it has no edition.
  *
  * No answer depends on what free slots hold, or a slot's octets behind its payload. After a refusal they are as they came;
  * after any other answer nothing is promised of them.
@@ -316,6 +326,7 @@ typedef struct hasfandur_dlc_link {
     hasfandur_dlc_queue queue;
     uint8_t base;
     uint8_t expected;
+    uint8_t edition;
 } hasfandur_dlc_link;
 
 /*
@@ -331,14 +342,18 @@ typedef struct hasfandur_dlc_answer {
     size_t lengths[HASFANDUR_DLC_SLOTS];
 } hasfandur_dlc_answer;
 
-/* What an event gives back: the link for the next call, and the answer. */
+/* What is given back where a link is made, and by every event: the link for the next call, and the answer. */
 typedef struct hasfandur_dlc_outcome {
     hasfandur_dlc_link link;
     hasfandur_dlc_answer answer;
 } hasfandur_dlc_outcome;
 
-/* A link before any event: HASFANDUR_DLC_STATE_IDLE, queue empty, numbers 0. */
-HASFANDUR_MUST_USE hasfandur_dlc_link hasfandur_dlc_fresh(void);
+/*
+ * A link of an edition before any event: HASFANDUR_DLC_STATE_IDLE, queue empty, numbers 0. Of the answer only the number may be other
+ * than 0: HASFANDUR_DONE; or HASFANDUR_DLC_BAD_EDITION where the edition is neither of the two, with a fresh link of
+ * HASFANDUR_DLC_EDITION_1 beside it.
+ */
+HASFANDUR_MUST_USE hasfandur_dlc_outcome hasfandur_dlc_fresh(uint8_t edition);
 
 /*
  * The four events. Each takes the link that the last call at this end gave back, and gives the next one back. Packets to be
@@ -372,15 +387,16 @@ HASFANDUR_MUST_USE hasfandur_dlc_outcome hasfandur_dlc_payload(hasfandur_dlc_lin
  * A packet arrived. HASFANDUR_DLC_BAD_PACKET in every state: it is empty, of no kind below, over HASFANDUR_DLC_MAX_PACKET
  * octets, or not DATA and longer than one; in RESET and RESET_ACK the low four bits are not 0. Otherwise by its kind:
  *
- * RESET (10), in every state: queue emptied, numbers 0, the upper layer told to reset, RESET_ACK sent, to
+ * RESET (10), in every state: queue emptied, numbers 0, the edition kept, the upper layer told to reset, RESET_ACK sent, to
  * HASFANDUR_DLC_STATE_DATA.
  * RESET_ACK (20): HASFANDUR_DLC_STATE_RESET goes to HASFANDUR_DLC_STATE_DATA. HASFANDUR_DLC_NO_ENTRY in every other state.
  * DATA (4x), in HASFANDUR_DLC_STATE_DATA and HASFANDUR_DLC_STATE_WAIT: where x is the expected number its payload is delivered
  * and the expected number counts on, modulo 16; otherwise the answer is HASFANDUR_DLC_OTHER_NUMBER and nothing is delivered.
- * Either way DACK (5x) is sent with the number now expected. HASFANDUR_DLC_NO_ENTRY in the other states.
- * DACK (5x), in HASFANDUR_DLC_STATE_WAIT: x less `base`, modulo 16, is how many of the oldest payloads are removed, and `base`
- * becomes x; an emptied queue goes to HASFANDUR_DLC_STATE_DATA. HASFANDUR_DLC_NO_ENTRY where that is none or more than are
- * queued, and in the other states.
+ * Either way DACK (5x) is sent with the number now expected; under HASFANDUR_DLC_EDITION_2 with that less 1, modulo 16: 15 at the
+ * start, where 0 is expected. HASFANDUR_DLC_NO_ENTRY in the other states.
+ * DACK (5x), in HASFANDUR_DLC_STATE_WAIT: x less `base`, modulo 16, is how many of the oldest payloads are removed, under
+ * HASFANDUR_DLC_EDITION_2 x plus 1 less `base`; `base` counts on by as many, modulo 16; an emptied queue goes to
+ * HASFANDUR_DLC_STATE_DATA. HASFANDUR_DLC_NO_ENTRY where that is none or more than are queued, and in the other states.
  */
 HASFANDUR_MUST_USE hasfandur_dlc_outcome hasfandur_dlc_arrival(hasfandur_dlc_link link, const uint8_t *packet,
                                                                size_t packet_length, uint8_t *reply, size_t reply_length);
@@ -582,6 +598,8 @@ static inline const char *hasfandur_number_name(uint8_t number)
         return "DLC_REPLY_TOO_SMALL";
     case HASFANDUR_DLC_BAD_LINK:
         return "DLC_BAD_LINK";
+    case HASFANDUR_DLC_BAD_EDITION:
+        return "DLC_BAD_EDITION";
     case HASFANDUR_AFP_BAD_LENGTH:
         return "AFP_BAD_LENGTH";
     case HASFANDUR_AFP_BAD_CHECK:

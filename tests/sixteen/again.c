@@ -48,7 +48,7 @@ static end opened(const char *name)
 {
     static const uint8_t reset[] = {HASFANDUR_DLC_RESET};
     end e = {name, {0}, {0}};
-    e.link = hasfandur_dlc_arrival(hasfandur_dlc_fresh(), reset, sizeof reset, e.reply, sizeof e.reply).link;
+    e.link = hasfandur_dlc_arrival(hasfandur_dlc_fresh(HASFANDUR_DLC_EDITION_1).link, reset, sizeof reset, e.reply, sizeof e.reply).link;
     return e;
 }
 

@@ -9,7 +9,7 @@ use Rattle.dlc_packet.specs.Packet.{dataPackets}
 use Rattle.dlc_table.specs.declared.State.the-variants.{Wait}
 use Rattle.dlc_table.specs.Answers.{done, refuses}
 use Rattle.dlc_table.specs.Model.{Model}
-use Rattle.dlc_table.specs.Events.{Effect, effect, refuse, timerStep}
+use Rattle.dlc_table.specs.Events.{Effect, effect, refuse, madeOf, timerStep}
 use Rattle.dlc_queue.specs.Queue.{slots, replySize, held}
 use Rattle.dlc_send.specs.Send.{lengthsOf, Sent}
 use Rattle.dlc_send.proofs.Sending.{sent-all, length-dataPackets}
@@ -17,8 +17,16 @@ use Rattle.dlc.specs.declared.Link.{Link}
 use Rattle.dlc_answer.specs.declared.Answer.{Answer}
 use Rattle.dlc.specs.declared.Outcome.{Outcome}
 use Rattle.dlc.specs.View.{view, wellFormed}
-use Rattle.dlc.specs.Calls.{given, OneSent, Returns, Meets}
+use Rattle.dlc.specs.Calls.{answerOf, given, OneSent, MakeCall, Returns, Meets}
 use Rattle.dlc.proofs.Parts.{parts}
+
+-- ---- a link is made
+pub made-returns : (n c : ℕ) (l : Link) (m : Model) (r : Outcome) → madeOf n ≡ effect c [] m → view l ≡ m → r ≡ given l (effect c [] (view l))
+    → MakeCall view n (r .link) (r .answer)
+made-returns n c l m r e v f = record {
+  answer = ap (λ (r : Outcome). r .answer) f ∙ sym (ap answerOf e);
+  link = ap (λ (r : Outcome). view (r .link)) f ∙ v ∙ sym (ap (λ (d : Effect). d .after) e);
+}
 
 -- ---- nothing sent
 module _ (d : Effect) (l : Link) (c : ℕ) (r : Outcome) where

@@ -10,7 +10,7 @@ use mir.Val.{Val}
 use denote.Laws.{Is}
 use borrow.Author.Tests.{lt-ltb, le-ltb, ltb-true, eq-eqb}
 use Rattle.common.proofs.Bools.{and-both}
-use Rattle.dlc_packet.specs.Numbers.{modulus}
+use Rattle.dlc_packet.specs.Numbers.{modulus, knownEdition}
 use Rattle.dlc_table.specs.declared.State.{State}
 use Rattle.dlc_table.specs.declared.State.the-variants.{Idle, Reset, Data, Wait}
 use Rattle.dlc_table.specs.Events.{isOpen, stateOf}
@@ -28,20 +28,23 @@ pub record Parts (l : Link) : Type 0 where
   pub queue : formed (l .queue) ≡ true
   pub base : l .base < modulus
   pub expected : l .expected < modulus
+  pub edition : knownEdition (l .edition) ≡ true
   pub state : fits l (l .state) ≡ true
 
 pub parts : (l : Link) → wellFormed l ≡ true → Parts l
 unfolding wellFormed
 parts l e =
+    let k : Bool = knownEdition (l .edition) in
     let f : Bool = fits l (l .state) in
-    let a = and-both (formed (l .queue)) (ltb (l .base) modulus && (ltb (l .expected) modulus && f)) e in
-    let b = and-both (ltb (l .base) modulus) (ltb (l .expected) modulus && f) (a .1) in
-    let c = and-both (ltb (l .expected) modulus) f (b .1) in
-    record { queue = a .0; base = ltb-true _ _ (b .0); expected = ltb-true _ _ (c .0); state = c .1 }
+    let a = and-both (formed (l .queue)) (ltb (l .base) modulus && (ltb (l .expected) modulus && (k && f))) e in
+    let b = and-both (ltb (l .base) modulus) (ltb (l .expected) modulus && (k && f)) (a .1) in
+    let c = and-both (ltb (l .expected) modulus) (k && f) (b .1) in
+    let d = and-both k f (c .1) in
+    record { queue = a .0; base = ltb-true _ _ (b .0); expected = ltb-true _ _ (c .0); edition = d .0; state = d .1 }
 
 pub whole : (l : Link) → Parts l → wellFormed l ≡ true
 unfolding wellFormed
-whole l g = simp (g .queue, lt-ltb _ _ (g .base), lt-ltb _ _ (g .expected)) (g .state)
+whole l g = simp (g .queue, lt-ltb _ _ (g .base), lt-ltb _ _ (g .expected), g .edition) (g .state)
 
 -- the tests that a link fails, in the order of the code
 module _ (l : Link) where
@@ -57,9 +60,13 @@ module _ (l : Link) where
   unfolding wellFormed
   bad-expected e h k = rw (e, lt-ltb _ _ h, le-ltb _ _ k)
 
-  pub by-state : formed (l .queue) ≡ true → l .base < modulus → l .expected < modulus → wellFormed l ≡ fits l (l .state)
+  pub bad-edition : formed (l .queue) ≡ true → l .base < modulus → l .expected < modulus → knownEdition (l .edition) ≡ false → wellFormed l ≡ false
   unfolding wellFormed
-  by-state e h k = rw (e, lt-ltb _ _ h, lt-ltb _ _ k)
+  bad-edition e h k d = rw (e, lt-ltb _ _ h, lt-ltb _ _ k, d)
+
+  pub by-state : formed (l .queue) ≡ true → l .base < modulus → l .expected < modulus → knownEdition (l .edition) ≡ true → wellFormed l ≡ fits l (l .state)
+  unfolding wellFormed
+  by-state e h k d = rw (e, lt-ltb _ _ h, lt-ltb _ _ k, d)
 
 -- in an open state the expected number is free
 pub open-fits : (s : State) (n : ℕ) (r : Bool) (b e e′ : ℕ) → isOpen s ≡ true → stateFits s n r b e ≡ true → stateFits s n r b e′ ≡ true

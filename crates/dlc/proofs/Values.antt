@@ -7,7 +7,8 @@ use mathlib.Core.List.{List}
 use lib.ListN.{length}
 use lib.Dec.{eqb}
 use borrow.Author.Tests.{lt-ltb}
-use Rattle.dlc_packet.specs.Numbers.{modulus}
+use Rattle.dlc_packet.specs.Numbers.{modulus, Edition, editionNumber}
+use Rattle.dlc_packet.proofs.Numbers.{edition-again, edition-known}
 use Rattle.dlc_table.specs.declared.State.{State}
 use Rattle.dlc_table.specs.Model.{Model, rebuilt, fresh}
 use Rattle.dlc_queue.specs.Queue.{slots, held, atRest}
@@ -16,7 +17,7 @@ use Rattle.dlc.specs.declared.Link.{Link}
 use Rattle.dlc.specs.View.{stateFits, wellFormed, seen, view}
 
 abbrev pub linkOf : Model → Link
-linkOf m = record { state = m .state; queue = queueOf (m .queue); base = m .base; expected = m .expected }
+linkOf m = record { state = m .state; queue = queueOf (m .queue); base = m .base; expected = m .expected; edition = editionNumber (m .edition) }
 
 -- a model that a link can hold: it is well formed, and no limit of its parts is passed
 pub record Fits (m : Model) : Type 0 where
@@ -36,16 +37,24 @@ module _ (m : Model) (f : Fits m) where
   unfolding wellFormed
   formed-linkOf =
       λ i. formed-queueOf (m .queue) (f .short) (f .few) i
-      && (lt-ltb (m .base) modulus (f .base) i && (lt-ltb (m .expected) modulus (f .expected) i && state-linkOf i))
+      && (lt-ltb (m .base) modulus (f .base) i
+      && (lt-ltb (m .expected) modulus (f .expected) i && (edition-known (m .edition) i && state-linkOf i)))
 
   pub view-linkOf : view (linkOf m) ≡ m
   view-linkOf =
       ap (λ (ok : Bool). seen ok (linkOf m)) (formed-linkOf ∙ sym (f .ok))
-      ∙ (λ i. rebuilt m (m .state) (payloads-queueOf (m .queue) (f .few) i) (m .base) (m .expected))
+      ∙ (λ i. record {
+        ok = m .ok;
+        state = m .state;
+        queue = payloads-queueOf (m .queue) (f .few) i;
+        base = m .base;
+        expected = m .expected;
+        edition = edition-again (m .edition) i;
+      })
 
 -- a fresh link fits, and whatever is made of a link that fits does where its parts do
-pub fits-fresh : Fits fresh
-fits-fresh = record { ok = refl; few = omega arith; short = tt; base = omega arith; expected = omega arith; state = refl }
+pub fits-fresh : (d : Edition) → Fits (fresh d)
+fits-fresh d = record { ok = refl; few = omega arith; short = tt; base = omega arith; expected = omega arith; state = refl }
 
 pub fits-rebuilt : (m : Model) → Fits m → (s : State) (q : List (List ℕ)) (b e : ℕ) → length q ≤ slots → Short q → b < modulus → e < modulus
     → stateFits s (length q) (eqb (length q) 0) b e ≡ true

@@ -7,7 +7,7 @@ use mathlib.Core.List.{List, [], _∷_}
 use lib.ListN.{length, drop, length-drop}
 use lib.Dec.{ltb, eqb}
 use borrow.Author.Tests.{lt-ltb, ne-eqb}
-use Rattle.dlc_packet.specs.Numbers.{modulus, advance}
+use Rattle.dlc_packet.specs.Numbers.{modulus, advance, editionOf, knownEdition}
 use Rattle.dlc_packet.specs.Packet.{maxPayload}
 use Rattle.dlc_table.specs.declared.State.{State}
 use Rattle.dlc_table.specs.declared.State.the-variants.{Idle, Data, Wait}
@@ -21,13 +21,13 @@ use Rattle.dlc.specs.View.{wellFormed, stateFits, seen, view, relinked}
 use Rattle.dlc.proofs.Parts.{parts, whole, fits, open-fits, queue-fits}
 
 -- a fresh link
-abbrev pub freshWith : Queue → Link
-freshWith q = record { state = Idle; queue = q; base = 0; expected = 0 }
+abbrev pub freshWith : ℕ → Queue → Link
+freshWith n q = record { state = Idle; queue = q; base = 0; expected = 0; edition = n }
 
-pub view-fresh : view (freshWith freshQueue) ≡ fresh
-view-fresh =
-    let r : Link = freshWith freshQueue in
-    let w : wellFormed r ≡ true = whole r (record { queue = fresh-formed; base = omega arith; expected = omega arith; state = refl }) in
+pub view-fresh : (n : ℕ) → knownEdition n ≡ true → view (freshWith n freshQueue) ≡ fresh (editionOf n)
+view-fresh n k =
+    let r : Link = freshWith n freshQueue in
+    let w : wellFormed r ≡ true = whole r (record { queue = fresh-formed; base = omega arith; expected = omega arith; edition = k; state = refl }) in
     λ i. seen (w i) r
 
 module _ (l : Link) (w : wellFormed l ≡ true) where
@@ -36,7 +36,7 @@ module _ (l : Link) (w : wellFormed l ≡ true) where
       → view (relinked l s q b e) ≡ rebuilt (view l) s (payloads q) b e
   rebuilt-view s q b e fq fb fe fs =
       let r : Link = relinked l s q b e in
-      let v : wellFormed r ≡ wellFormed l = whole r (record { queue = fq; base = fb; expected = fe; state = fs }) ∙ sym w in
+      let v : wellFormed r ≡ wellFormed l = whole r (record { queue = fq; base = fb; expected = fe; edition = parts l w .edition; state = fs }) ∙ sym w in
       λ i. seen (v i) r
 
   -- RESET leaves an empty queue

@@ -1,5 +1,6 @@
 -- What each call on a link promises. Cited by the link's functions, and by whoever reasons about links. Assumes nothing.
 --
+--   MakeCall                                           the contract of the function that makes a link
 --   StartCall, TimerCall, PayloadCall, ArrivalCall     the contracts of the four events
 --
 -- Each is over a type of links and its view: `Link` with `view` here, the link in plain numbers in dlc_plain. It takes the link that came, what was
@@ -15,7 +16,7 @@ use Rattle.common.specs.Buffer.{withFront}
 use Rattle.dlc_answer.specs.declared.Answer.{Answer}
 use Rattle.dlc_table.specs.Answers.{refuses}
 use Rattle.dlc_table.specs.Model.{Model}
-use Rattle.dlc_table.specs.Events.{Effect, startOf, timerOf, payloadOf, arrivalOf}
+use Rattle.dlc_table.specs.Events.{Effect, madeOf, startOf, timerOf, payloadOf, arrivalOf}
 use Rattle.dlc_queue.specs.Queue.{slots}
 use Rattle.dlc_send.specs.Send.{lengthsOf}
 use Rattle.dlc.specs.declared.Link.{Link}
@@ -42,6 +43,11 @@ pub record OneSent (l : Link) (c : ℕ) (upperReset delivered : Bool) (packet be
   pub reply : later ≡ withFront packet before
 
 -- ---- over a type of links L and its view v, which gives the model that the step table speaks of
+-- what is given back where a link is made, with this number for its edition: the answer a, and the link r
+pub record MakeCall {L : Type 0} (v : L → Model) (n : ℕ) (r : L) (a : Answer) : Type 0 where
+  pub answer : a ≡ answerOf (madeOf n)
+  pub link : v r ≡ madeOf n .after
+
 -- what is given back where the effect is d, for the link l: its answer a, the link r after it, and on a refusal the very link that came
 pub record Returns {L : Type 0} (v : L → Model) (d : Effect) (l r : L) (a : Answer) : Type 0 where
   pub answer : a ≡ answerOf d

@@ -6,7 +6,7 @@
 use Prim.Native.Nat.{ℕ}
 use mathlib.Core.Bool.{Bool, _&&_}
 use lib.Dec.{ltb, eqb}
-use Rattle.dlc_packet.specs.Numbers.{modulus}
+use Rattle.dlc_packet.specs.Numbers.{modulus, editionOf, knownEdition}
 use Rattle.dlc_table.specs.declared.State.{State}
 use Rattle.dlc_table.specs.declared.State.the-variants.{Idle, Reset, Data, Wait}
 use Rattle.dlc_table.specs.Model.{Model}
@@ -22,20 +22,28 @@ stateFits Reset n rests base expected = rests && (eqb base 0 && eqb expected 0)
 stateFits Data n rests base expected = eqb n 0
 stateFits Wait n rests base expected = ltb 0 n
 
--- whether a link value is well formed; where it is not, every event answers 27
+-- whether a link value is well formed; where it is not, every event answers 27: so "a link value with an unknown edition answers 27" (2026-08)
 unfoldable pub wellFormed : Link → Bool
 wellFormed l =
     formed (l .queue)
     && (ltb (l .base) modulus
-    && (ltb (l .expected) modulus && stateFits (l .state) (held (l .queue)) (atRest (l .queue)) (l .base) (l .expected)))
+    && (ltb (l .expected) modulus
+    && (knownEdition (l .edition) && stateFits (l .state) (held (l .queue)) (atRest (l .queue)) (l .base) (l .expected))))
 
 -- a link as the table sees it, where it is said whether it is well formed
 abbrev pub seen : Bool → Link → Model
-seen ok l = record { ok = ok; state = l .state; queue = payloads (l .queue); base = l .base; expected = l .expected }
+seen ok l = record {
+  ok = ok;
+  state = l .state;
+  queue = payloads (l .queue);
+  base = l .base;
+  expected = l .expected;
+  edition = editionOf (l .edition);
+}
 
 abbrev pub view : Link → Model
 view l = seen (wellFormed l) l
 
--- the link with another state, queue and numbers; whatever else it has goes along (nothing today). Every link that an event makes of a link is one
+-- the link with another state, queue and numbers; its edition goes along. Every link that an event makes of a link is one
 abbrev pub relinked : Link → State → Queue → ℕ → ℕ → Link
-relinked l s q b e = record { state = s; queue = q; base = b; expected = e }
+relinked l s q b e = record { state = s; queue = q; base = b; expected = e; edition = l .edition }

@@ -6,7 +6,7 @@ use dlc_packet::MODULUS;
 use dlc_table::State;
 
 impl Link {
-    // Whether this is a link: what the queue, the numbers and the state may be, and how they go together.
+    // Whether this is a link: what the queue, the numbers, the edition and the state may be, and how they go together.
     pub fn well_formed(self) -> bool
         ensures { λ r. ⌜ r ≡ wellFormed self ⌝ }
     {
@@ -20,10 +20,13 @@ impl Link {
             if MODULUS <= expected {
                 return false;
             }
-            let s = self.state;
-            let n = q.len();
-            let rests = q.at_rest();
-            state_fits(s, n, rests, base, expected)
+            if dlc_packet::known_edition(self.edition) {
+                let s = self.state;
+                let n = q.len();
+                let rests = q.at_rest();
+                return state_fits(s, n, rests, base, expected);
+            }
+            false
         } else {
             false
         }

@@ -1,20 +1,24 @@
 // One end of a DLC link, by value: each event takes a link and gives it back with an answer.
-// Here: the types, the constructor, and how an outcome is made; the four events are in events.rt, the rows of the step table that they come to in
+// Here: the types, how a link is made, and how an outcome is; the four events are in events.rt, the rows of the step table that they come to in
 // rows.rt, what a well-formed link is in form.rt.
 // Definitions: specs/ (View: when a link value is well formed, and how the step table sees it; Calls: what each call promises). The step table
 // is in the crate dlc_table, the queue in dlc_queue; no field of the queue is looked at here.
 ghost use mathlib.Core.Path.{_≡_};
-ghost use mathlib.Core.Bool.{cond};
+ghost use mathlib.Core.Bool.{true, cond};
 ghost use mathlib.Core.List.{[], _∷_};
 ghost use Prim.Native.Nat.{_+_, _≤_};
 ghost use lib.ListN.{length};
 ghost use lib.Dec.{eqb};
+ghost use Rattle.dlc_packet.specs.Numbers.{editionOf, knownEdition};
 ghost use Rattle.dlc_table.specs.Model.{fresh};
 ghost use Rattle.dlc_table.specs.Events.{isOpen, effect};
 ghost use Rattle.dlc.specs.View.{view, relinked};
-ghost use Rattle.dlc.specs.Calls.{given, OneSent};
+ghost use Rattle.dlc.specs.Calls.{given, OneSent, MakeCall};
 use dlc_answer::Answer;
+use dlc_packet::EDITION_1;
 use dlc_queue::Queue;
+use dlc_table::BAD_EDITION;
+use dlc_table::DONE;
 use dlc_table::State;
 
 mod events;
@@ -29,6 +33,8 @@ pub struct Link {
     pub base: u8,
     // The number of the DATA that is expected next.
     pub expected: u8,
+    // How DACK is read: EDITION_1 or EDITION_2, set when the link is made.
+    pub edition: u8,
 }
 
 pub struct Outcome {
@@ -44,16 +50,14 @@ impl Link {
 
     pub const REPLY_SIZE: usize = Queue::REPLY_SIZE;
 
-    // A fresh link.
-    pub fn new() -> Self
-        ensures { λ r. ⌜ view r ≡ fresh ⌝ }
+    // Makes a link of an edition. Where that is unknown, BAD_EDITION, and a link of the first edition.
+    pub fn make(edition: u8) -> Outcome
+        ensures { λ r. ⌜ MakeCall view edition (r .link) (r .answer) ⌝ }
     {
-        let q = Queue::new();
-        Link {
-            state: State::Idle,
-            queue: q,
-            base: 0,
-            expected: 0,
+        if dlc_packet::known_edition(edition) {
+            silent(fresh_link(edition), DONE)
+        } else {
+            silent(fresh_link(EDITION_1), BAD_EDITION)
         }
     }
 
@@ -67,7 +71,23 @@ impl Link {
             queue: q,
             base: self.base,
             expected: self.expected,
+            edition: self.edition,
         }
+    }
+}
+
+// A link before any event.
+fn fresh_link(edition: u8) -> Link
+    requires { ⌜ knownEdition edition ≡ true ⌝ }
+    ensures { λ r. ⌜ view r ≡ fresh (editionOf edition) ⌝ }
+{
+    let q = Queue::new();
+    Link {
+        state: State::Idle,
+        queue: q,
+        base: 0,
+        expected: 0,
+        edition: edition,
     }
 }
 

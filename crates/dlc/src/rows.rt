@@ -72,13 +72,14 @@ impl Link {
         ensures { λ r. ⌜ Meets view (judged (view self) x) self (now (reply .entry)) (now (reply .exit)) (r .link) (r .answer) ⌝ }
     {
         let expected = self.expected;
+        let edition = self.edition;
         if x == expected {
             let next = dlc_packet::advanced(expected, 1);
             self.expected = next;
-            let dack = dlc_packet::DACK + dlc_packet::dack_number(next);
+            let dack = dlc_packet::DACK + dlc_packet::dack_number(edition, next);
             send_control(self, DONE, false, true, dack, reply)
         } else {
-            let dack = dlc_packet::DACK + dlc_packet::dack_number(expected);
+            let dack = dlc_packet::DACK + dlc_packet::dack_number(edition, expected);
             send_control(self, OTHER_NUMBER, false, false, dack, reply)
         }
     }
@@ -103,7 +104,7 @@ impl Link {
         ensures { λ r. ⌜ Returns view (acknowledged (view self) (distanceOf (view self) x)) self (r .link) (r .answer) ⌝ }
     {
         let q = self.queue;
-        let n = dlc_packet::dack_distance(self.base, x);
+        let n = dlc_packet::dack_distance(self.edition, self.base, x);
         if n == 0 {
             return silent(self, NO_ENTRY);
         }

@@ -1,5 +1,5 @@
--- Opening: from a fresh link and any well-formed one (a fresh one too), start, timer and the arrivals of RESET and RESET_ACK lead to the world
--- that demand 3 starts from, and demand 3 holds from there on. The theorems stand last. Assumes nothing.
+-- Opening: from a fresh link and any well-formed one (a fresh one too), start, timer and the arrivals of RESET and RESET_ACK lead to two ends that stand
+-- open, each with the edition that it had; where that is the same, demand 3 holds from there on. The theorems stand last. Assumes nothing.
 use Prim.Native.Nat.{ℕ}
 use native.Mathlib.Omega.{arith}
 use mathlib.Core.Path.{_≡_, refl, sym, ap, subst, _∙_}
@@ -8,6 +8,7 @@ use mathlib.Core.Bool.{true, false, cond, _&&_, false≢true}
 use mathlib.Core.List.{List, [], _∷_, _++_}
 use lib.ListN.{length}
 use lib.Dec.{eqb}
+use Rattle.dlc_packet.specs.Numbers.{Edition}
 use Rattle.dlc_table.specs.Answers.{done, replyTooSmall, badLink, refuses}
 use Rattle.dlc_table.specs.Model.{Model, fresh, opened}
 use Rattle.dlc_table.specs.Events.{Effect, effect, cleared, startOf, timerOf, arrivalOf}
@@ -102,25 +103,25 @@ reply-known d e l l″ before h z = reply d l before l″ (h ∙ ap (λ (t : Eff
     (λ t. absurd (false≢true (sym z ∙ ap (λ (t : Effect). refuses (t .code)) (sym e) ∙ t)))
 
 -- ---- the four calls, one after another
-module _ {L : Type 0} (v : L → Model) (l l′ : L) (e : v l ≡ fresh) (e′ : v l′ .ok ≡ true) (b₁ b₂ b₃ b₄ : Octets)
+module _ {L : Type 0} (v : L → Model) (l l′ : L) {edition : Edition} (e : v l ≡ fresh edition) (e′ : v l′ .ok ≡ true) (b₁ b₂ b₃ b₄ : Octets)
     (h₁ : Enough b₁) (h₂ : Enough b₂) (h₃ : Enough b₃) (h₄ : Enough b₄) where
   -- the left end after start
-  start-effect : startOf slots (v l) (length b₁) ≡ effect done [] resetting
-  start-effect = ap (λ (m : Model). startOf slots m (length b₁)) e ∙ startOf-fresh (length b₁) h₁
+  start-effect : startOf slots (v l) (length b₁) ≡ effect done [] (resetting edition)
+  start-effect = ap (λ (m : Model). startOf slots m (length b₁)) e ∙ startOf-fresh edition (length b₁) h₁
 
   module _ (g₁ : Reply (StartCall v l b₁)) where
-    after-start : Stands v (called (g₁ .link) (g₁ .answer) (g₁ .later) [] [] 0 (freshEnd l)) resetting []
+    after-start : Stands v (called (g₁ .link) (g₁ .answer) (g₁ .later) [] [] 0 (freshEnd l)) (resetting edition) []
     after-start = stands-called (rw start-effect at (g₁ .meets)) (stands-fresh l e) refl (λ x. omega (arith, x)) refl refl
 
     -- and after its timer has sent RESET
-    timer-effect : timerOf slots (v (g₁ .link)) (length b₂) ≡ effect done (resetPacket ∷ []) resetting
-    timer-effect = ap (λ (m : Model). timerOf slots m (length b₂)) (after-start .model) ∙ timerOf-resetting (length b₂) h₂
+    timer-effect : timerOf slots (v (g₁ .link)) (length b₂) ≡ effect done (resetPacket ∷ []) (resetting edition)
+    timer-effect = ap (λ (m : Model). timerOf slots m (length b₂)) (after-start .model) ∙ timerOf-resetting edition (length b₂) h₂
 
     module _ (g₂ : Reply (TimerCall v (g₁ .link) b₂)) where
       abbrev sentReset : World L
       sentReset = record { left = called (g₂ .link) (g₂ .answer) (g₂ .later) [] [] 0 (called (g₁ .link) (g₁ .answer) (g₁ .later) [] [] 0 (freshEnd l)); right = freshEnd l′ }
 
-      after-timer : Stands v (sentReset .left) resetting (resetPacket ∷ [])
+      after-timer : Stands v (sentReset .left) (resetting edition) (resetPacket ∷ [])
       after-timer = stands-called (rw timer-effect at (g₂ .meets)) after-start refl (λ x. omega (arith, x)) refl refl
 
       module _ (g₃ : GivenAt v right (arrival b₃) sentReset) where
@@ -128,46 +129,49 @@ module _ {L : Type 0} (v : L → Model) (l l′ : L) (e : v l ≡ fresh) (e′ :
         answered = afterAt v right (arrival b₃) sentReset g₃
 
         -- RESET has arrived at the right end, which is open now and has sent RESET_ACK
-        after-reset : Stands v (answered .right) (cleared (v l′) .after) (resetAckPacket ∷ []) × Stands v (answered .left) resetting []
+        after-reset : Stands v (answered .right) (cleared (v l′) .after) (resetAckPacket ∷ []) × Stands v (answered .left) (resetting edition) []
         after-reset = stands-arrived resetPacket (stands-fresh l′ refl) after-timer b₃
-            (arrivalOf-reset (length b₃) h₃ (v l′) e′) refl (λ x. omega (arith, x)) refl refl g₃
+            (arrivalOf-reset edition (length b₃) h₃ (v l′) e′) refl (λ x. omega (arith, x)) refl refl g₃
 
         -- RESET_ACK has arrived at the left end
         after-ack : (g₄ : GivenAt v left (arrival b₄) answered)
-            → Stands v (afterAt v left (arrival b₄) answered g₄ .left) opened [] × Stands v (afterAt v left (arrival b₄) answered g₄ .right) opened []
+            → Stands v (afterAt v left (arrival b₄) answered g₄ .left) (opened edition) []
+            × Stands v (afterAt v left (arrival b₄) answered g₄ .right) (opened (v l′ .edition)) []
         after-ack g₄ =
             let s = stands-arrived resetAckPacket (after-reset .1) (after-reset .0) b₄
-            (arrivalOf-resetAck (length b₄) h₄) refl (λ x. omega (arith, x)) refl refl g₄ in
+            (arrivalOf-resetAck edition (length b₄) h₄) refl (λ x. omega (arith, x)) refl refl g₄ in
             (s .0, subst (λ (m : Model). Stands v (afterAt v left (arrival b₄) answered g₄ .right) m []) (cleared-opened (v l′) e′) (s .1))
 
   -- ---- the theorems
-  -- both ends stand open, and both lines are empty
+  -- both ends stand open, each with its edition, and both lines are empty
   pub opening : (h : History v (openingEvents b₁ b₂ b₃ b₄) (initial l l′))
-      → Stands v (final v (openingEvents b₁ b₂ b₃ b₄) (initial l l′) h .left) opened [] × Stands v (final v (openingEvents b₁ b₂ b₃ b₄) (initial l l′) h .right) opened []
+      → Stands v (final v (openingEvents b₁ b₂ b₃ b₄) (initial l l′) h .left) (opened edition) []
+      × Stands v (final v (openingEvents b₁ b₂ b₃ b₄) (initial l l′) h .right) (opened (v l′ .edition)) []
   opening h = after-ack (h .0) (h .1 .0) (h .1 .1 .0) (h .1 .1 .1 .0)
 
   -- it can be done, where the type of links has values
   pub opening-exists : Covers v → History v (openingEvents b₁ b₂ b₃ b₄) (initial l l′)
   opening-exists covers =
-      let resets = value-of covers resetting resetting-fits in
-      let opens = value-of covers opened opened-fits in
+      let resets = value-of covers (resetting edition) (resetting-fits edition) in
+      let opens = value-of covers (opened edition) (opened-fits edition) in
+      let answers = value-of covers (opened (v l′ .edition)) (opened-fits (v l′ .edition)) in
       let g₁ : Reply (StartCall v l b₁) = reply-known _ start-effect l (resets .0) b₁ (resets .1) refl in
       let g₂ : Reply (TimerCall v (g₁ .link) b₂) = reply-known _ (timer-effect g₁) (g₁ .link) (resets .0) b₂ (resets .1) refl in
       let w₂ = sentReset g₁ g₂ in
       let g₃ : GivenAt v right (arrival b₃) w₂ =
       subst (λ (k : Packets). GivenFront v k (freshEnd l′) b₃) (sym (after-timer g₁ g₂ .line))
-      (reply-known _ (arrivalOf-reset (length b₃) h₃ (v l′) e′) l′ (opens .0) b₃ (opens .1 ∙ sym (cleared-opened (v l′) e′)) refl) in
+      (reply-known _ (arrivalOf-reset edition (length b₃) h₃ (v l′) e′) l′ (answers .0) b₃ (answers .1 ∙ sym (cleared-opened (v l′) e′)) refl) in
       let w₃ = answered g₁ g₂ g₃ in
       let s₃ = after-reset g₁ g₂ g₃ in
       let g₄ : GivenAt v left (arrival b₄) w₃ =
       subst (λ (k : Packets). GivenFront v k (w₃ .left) b₄) (sym (s₃ .0 .line))
-      (reply-known _ (ap (λ (m : Model). arrivalOf slots m resetAckPacket (length b₄)) (s₃ .1 .model) ∙ arrivalOf-resetAck (length b₄) h₄)
+      (reply-known _ (ap (λ (m : Model). arrivalOf slots m resetAckPacket (length b₄)) (s₃ .1 .model) ∙ arrivalOf-resetAck edition (length b₄) h₄)
       (w₃ .left .link) (opens .0) b₄ (opens .1) refl) in
       (g₁, (g₂, (g₃, (g₄, tt))))
 
--- from a world that opening has led to, demand 3 holds
-follows-opened : {L : Type 0} {v : L → Model} {e : End L} → Stands v e opened [] → Follows modelOf v e freshPeer
-follows-opened s = record {
+-- from a world that opening has led to, demand 3 holds where both ends use the same edition
+follows-opened : {L : Type 0} {v : L → Model} {e : End L} (d : Edition) → Stands v e (opened d) [] → Follows (modelOf d) v e freshPeer
+follows-opened d s = record {
   model = s .model;
   line = s .line;
   accepted = s .accepted;
@@ -175,11 +179,11 @@ follows-opened s = record {
   sent = s .sent;
   lost = s .lost;
   never = s .never;
-  fits = opened-fits;
+  fits = opened-fits d;
   sound = tt;
 }
 
-pub demand-three-opened : {L : Type 0} {v : L → Model} {w : World L} → Stands v (w .left) opened [] → Stands v (w .right) opened []
+pub demand-three-opened : {L : Type 0} {v : L → Model} {w : World L} (d : Edition) → Stands v (w .left) (opened d) [] → Stands v (w .right) (opened d) []
     → (es : List Event) (h : History v es w)
     → Demand3 v es w h
-demand-three-opened s s′ es h = demand-three-from (record { left = follows-opened s; right = follows-opened s′ }) es h
+demand-three-opened d s s′ es h = demand-three-from d (record { left = follows-opened d s; right = follows-opened d s′ }) es h

@@ -1,14 +1,16 @@
 -- Two ends whose calls do just what the step table says, over the limit of places. Cited by proofs/ByTheTable, where the histories of demand 3 are
--- such runs, and by whoever asks what another limit would do (dlc_worked). Assumes nothing.
+-- such runs, and by whoever asks what another limit or two editions would do (dlc_worked). Assumes nothing.
 --
 --   tableStep limit a w    the world after an event at the left end
 --   tableRun limit es w    the world after a list of events
---   InOrder limit          whether from two open ends, whatever the events, each end delivers an initial part of what was accepted at the other
+--   InOrder limit d d′     whether from two open ends of these editions, whatever the events, each end delivers an initial part of what was accepted at
+--                          the other
 --
 -- The world is that of demand 3, with models for its links: a model has no free slots, so nothing is left open and a list of events has one run.
 use Prim.Native.Nat.{ℕ}
 use mathlib.Core.List.{List, [], _∷_, IsPrefix}
 use lib.ListN.{length, getElem?}
+use Rattle.dlc_packet.specs.Numbers.{Edition}
 use Rattle.dlc_table.specs.Model.{Model, opened}
 use Rattle.dlc_table.specs.Events.{Effect, startOf, timerOf, payloadOf, arrivalOf}
 use Rattle.dlc.specs.Calls.{answerOf}
@@ -57,11 +59,11 @@ module _ (limit : ℕ) where
   tableRun [] w = w
   tableRun (e ∷ es) w = tableRun es (tableStepAt (e .side) (e .act) w)
 
--- two ends as demand 3 has them at the start
-abbrev pub openEnds : World Model
-openEnds = initial opened opened
+-- two ends that stand open, each with its edition; demand 3 has the same at both
+abbrev pub openEnds : Edition → Edition → World Model
+openEnds d d′ = initial (opened d) (opened d′)
 
--- demand 3's first part, as a claim about the table with this limit
-abbrev pub InOrder : ℕ → Type 0
-InOrder limit = (es : List Event) → IsPrefix (tableRun limit es openEnds .right .delivered) (tableRun limit es openEnds .left .accepted)
-    × IsPrefix (tableRun limit es openEnds .left .delivered) (tableRun limit es openEnds .right .accepted)
+-- demand 3's first part, as a claim about the table with this limit and these editions
+abbrev pub InOrder : ℕ → Edition → Edition → Type 0
+InOrder limit d d′ = (es : List Event) → IsPrefix (tableRun limit es (openEnds d d′) .right .delivered) (tableRun limit es (openEnds d d′) .left .accepted)
+    × IsPrefix (tableRun limit es (openEnds d d′) .left .delivered) (tableRun limit es (openEnds d d′) .right .accepted)

@@ -37,12 +37,12 @@ numberOf Wait = stateWait
 abbrev pub stateOf : ℕ → State
 stateOf n = cond (eqb n stateIdle) Idle (cond (eqb n stateReset) Reset (cond (eqb n stateData) Data Wait))
 
--- all but the state, which is the same in both; every link in plain numbers, and every link of one, is made so
+-- all but the state is the same in both, the edition too; every link in plain numbers, and every link of one, is made so
 abbrev pub linkWith : PlainLink → State → Link
-linkWith c s = record { state = s; queue = c .queue; base = c .base; expected = c .expected }
+linkWith c s = record { state = s; queue = c .queue; base = c .base; expected = c .expected; edition = c .edition }
 
 abbrev pub plainWith : Link → ℕ → PlainLink
-plainWith l n = record { state = n; queue = l .queue; base = l .base; expected = l .expected }
+plainWith l n = record { state = n; queue = l .queue; base = l .base; expected = l .expected; edition = l .edition }
 
 abbrev pub linkOf : PlainLink → Link
 linkOf c = linkWith c (stateOf (c .state))

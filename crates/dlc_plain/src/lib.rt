@@ -1,10 +1,9 @@
 // A link in plain numbers, for C programs: its state is a number, and any number may come.
 // The four events are those of the crate dlc. A state that is none of the four makes the value ill formed: answered with 27, as there.
 ghost use mathlib.Core.Path.{_≡_};
-ghost use Rattle.dlc_table.specs.Model.{fresh};
 ghost use Rattle.dlc_table.specs.Answers.{badLink};
 ghost use Rattle.dlc_table.specs.Events.{refuse};
-ghost use Rattle.dlc.specs.Calls.{answerOf, StartCall, TimerCall, PayloadCall, ArrivalCall};
+ghost use Rattle.dlc.specs.Calls.{answerOf, MakeCall, StartCall, TimerCall, PayloadCall, ArrivalCall};
 ghost use Rattle.dlc_plain.specs.Plain.{numberOf, stateOf, linkOf, plainOf, outcomeOf, view};
 use dlc::Link;
 use dlc::Outcome;
@@ -28,6 +27,7 @@ pub struct PlainLink {
     pub queue: Queue,
     pub base: u8,
     pub expected: u8,
+    pub edition: u8,
 }
 
 #[repr(C)]
@@ -37,11 +37,11 @@ pub struct PlainOutcome {
 }
 
 impl PlainLink {
-    // A fresh link.
-    pub fn new() -> Self
-        ensures { λ r. ⌜ view r ≡ fresh ⌝ }
+    // Makes a link of an edition. Where that is unknown, BAD_EDITION, and a link of the first edition.
+    pub fn make(edition: u8) -> PlainOutcome
+        ensures { λ r. ⌜ MakeCall view edition (r .link) (r .answer) ⌝ }
     {
-        plain(Link::new())
+        plain_outcome(Link::make(edition))
     }
 
     // The upper layer starts the link.
@@ -95,6 +95,7 @@ impl PlainLink {
             queue: q,
             base: self.base,
             expected: self.expected,
+            edition: self.edition,
         }
     }
 
@@ -152,6 +153,7 @@ fn plain(l: Link) -> PlainLink
         queue: q,
         base: l.base,
         expected: l.expected,
+        edition: l.edition,
     }
 }
 

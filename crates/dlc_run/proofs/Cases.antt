@@ -1,9 +1,10 @@
 -- The definitions of specs/ on small cases, by computation: what a reader may check them against. Assumes nothing.
-use Prim.Native.Nat.{ℕ, _*_}
+use Prim.Native.Nat.{ℕ, _+_, _*_}
 use mathlib.Core.Path.{_≡_, refl}
 use mathlib.Core.Bool.{Bool, true, false}
 use mathlib.Core.List.{List, [], _∷_, map, flatten}
 use lib.ListN.{replicate}
+use Rattle.dlc_packet.specs.Numbers.{Edition, edition1, edition2}
 use Rattle.dlc_packet.specs.Packet.{maxPacket, resetPacket, resetAckPacket, dataPacket, dackPacket}
 use Rattle.dlc_table.specs.declared.State.the-variants.{Reset, Data, Wait}
 use Rattle.dlc_table.specs.Answers.{done, queueFull, otherNumber}
@@ -105,17 +106,22 @@ one x = x ∷ replicate 256 99
 abbrev two : ℕ → ℕ → Octets
 two x y = x ∷ y ∷ replicate 255 99
 
+-- the DACK of the first payload, in either edition
+abbrev first : Edition → ℕ
+first edition1 = 1
+first edition2 = 0
+
 -- a fresh link is started, its timer sends RESET, RESET_ACK opens it; a payload is queued and sent, a second is refused, the timer sends the first
 -- again and a DACK takes it off; DATA that arrives is delivered and answered with a DACK, and the same again is answered only; RESET clears the link
-abbrev events : List Event
-events =
+abbrev events : Edition → List Event
+events d =
     start buffer
     ∷ timer buffer
     ∷ arrival resetAckPacket buffer
     ∷ payload (7 ∷ []) buffer
     ∷ payload (8 ∷ []) buffer
     ∷ timer buffer
-    ∷ arrival (dackPacket 1) buffer
+    ∷ arrival (dackPacket (first d)) buffer
     ∷ arrival (dataPacket 0 (5 ∷ 6 ∷ [])) buffer
     ∷ arrival (dataPacket 0 (5 ∷ 6 ∷ [])) buffer
     ∷ arrival resetPacket buffer
@@ -126,26 +132,27 @@ abbrev observed : ℕ → Packets → Octets → Packets → Model → Observed
 observed c sent reply delivered m = record { code = c; upperReset = false; packets = sent; reply = reply; delivered = delivered; after = m }
 
 -- the links on the way: with the payload queued, with it acknowledged, and with the DATA received
-abbrev waiting : Model
-waiting = rebuilt fresh Wait ((7 ∷ []) ∷ []) 0 0
+abbrev waiting : Edition → Model
+waiting d = rebuilt (fresh d) Wait ((7 ∷ []) ∷ []) 0 0
 
-abbrev emptied : Model
-emptied = rebuilt fresh Data [] 1 0
+abbrev emptied : Edition → Model
+emptied d = rebuilt (fresh d) Data [] 1 0
 
-abbrev received : Model
-received = rebuilt fresh Data [] 1 1
+abbrev received : Edition → Model
+received d = rebuilt (fresh d) Data [] 1 1
 
-pub table-trace : tableTrace places events fresh
-    ≡ observed done [] buffer [] (inState Reset fresh)
-    ∷ observed done ((0x10 ∷ []) ∷ []) (one 0x10) [] (inState Reset fresh)
-    ∷ observed done [] buffer [] opened
-    ∷ observed done ((0x40 ∷ 7 ∷ []) ∷ []) (two 0x40 7) [] waiting
-    ∷ observed queueFull [] buffer [] waiting
-    ∷ observed done ((0x40 ∷ 7 ∷ []) ∷ []) (two 0x40 7) [] waiting
-    ∷ observed done [] buffer [] emptied
-    ∷ observed done ((0x51 ∷ []) ∷ []) (one 0x51) ((5 ∷ 6 ∷ []) ∷ []) received
-    ∷ observed otherNumber ((0x51 ∷ []) ∷ []) (one 0x51) [] received
-    ∷ record { code = done; upperReset = true; packets = (0x20 ∷ []) ∷ []; reply = one 0x20; delivered = []; after = opened }
+pub table-trace : (d : Edition) → tableTrace places (events d) (fresh d)
+    ≡ observed done [] buffer [] (inState Reset (fresh d))
+    ∷ observed done ((0x10 ∷ []) ∷ []) (one 0x10) [] (inState Reset (fresh d))
+    ∷ observed done [] buffer [] (opened d)
+    ∷ observed done ((0x40 ∷ 7 ∷ []) ∷ []) (two 0x40 7) [] (waiting d)
+    ∷ observed queueFull [] buffer [] (waiting d)
+    ∷ observed done ((0x40 ∷ 7 ∷ []) ∷ []) (two 0x40 7) [] (waiting d)
+    ∷ observed done [] buffer [] (emptied d)
+    ∷ observed done (((0x50 + first d) ∷ []) ∷ []) (one (0x50 + first d)) ((5 ∷ 6 ∷ []) ∷ []) (received d)
+    ∷ observed otherNumber (((0x50 + first d) ∷ []) ∷ []) (one (0x50 + first d)) [] (received d)
+    ∷ record { code = done; upperReset = true; packets = (0x20 ∷ []) ∷ []; reply = one 0x20; delivered = []; after = opened d }
     ∷ []
 unfolding startOf timerOf payloadOf arrivalOf flatten
-table-trace = refl
+table-trace edition1 = refl
+table-trace edition2 = refl

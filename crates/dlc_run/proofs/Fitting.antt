@@ -50,7 +50,7 @@ module _ (m : Model) (f : Fits m) where
 
   entries : (limit : ℕ) → limit ≤ slots → Entries limit m (λ (d : Effect). Fits (d .after))
   entries limit h = record {
-    refused = λ c e o. f;
+    refused = λ c e b o. f;
     clears = fits-rebuilt m f Data [] 0 0 (omega arith) tt (omega arith) (omega arith) refl;
     starts = λ s. in-state Reset (rw s at (f .state));
     opens = λ s. in-state Data (and-both (eqb (length (m .queue)) 0) (eqb (m .base) 0 && eqb (m .expected) 0) (rw s at (f .state)) .0);

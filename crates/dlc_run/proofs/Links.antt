@@ -2,6 +2,7 @@
 -- at this one. Assumes nothing.
 use mathlib.Core.Path.{_≡_, refl, sym, subst}
 use mathlib.Core.List.{List}
+use Rattle.dlc_packet.specs.Numbers.{Edition}
 use Rattle.dlc_table.specs.Model.{fresh}
 use Rattle.dlc_table.specs.Runs.{Event, modelAfter}
 use Rattle.dlc_queue.specs.Queue.{slots}
@@ -32,21 +33,23 @@ pub runs-alike-link-plain : (es : List Event) (l : Link) (l′ : PlainLink) → 
     → trace view es l h ≡ trace plainView es l′ h′
 runs-alike-link-plain = runs-alike view plainView
 
--- ---- it is not about nothing: each type has a value for every `Link`, so there are fresh links, and every list of events has a history from one
+-- ---- it is not about nothing: each type has a value for every `Link`, so there are fresh links of either edition, and every list of events has a
+-- history from one
 pub link-covers : Covers view
 link-covers l = (l, refl)
 
 pub plain-covers : Covers plainView
 plain-covers l = (plainOf l, view-plain l)
 
-pub fresh-link : (l : Link) × (view l ≡ fresh)
-fresh-link = value-of link-covers fresh fits-fresh
+module _ (d : Edition) where
+  pub fresh-link : (l : Link) × (view l ≡ fresh d)
+  fresh-link = value-of link-covers (fresh d) (fits-fresh d)
 
-pub fresh-plain : (l : PlainLink) × (plainView l ≡ fresh)
-fresh-plain = value-of plain-covers fresh fits-fresh
+  pub fresh-plain : (l : PlainLink) × (plainView l ≡ fresh d)
+  fresh-plain = value-of plain-covers (fresh d) (fits-fresh d)
 
-pub run-exists-link : (es : List Event) (l : Link) → view l ≡ fresh → History view es l
-run-exists-link es l e = history-exists link-covers es l (subst Fits (sym e) fits-fresh)
+  pub run-exists-link : (es : List Event) (l : Link) → view l ≡ fresh d → History view es l
+  run-exists-link es l e = history-exists link-covers es l (subst Fits (sym e) (fits-fresh d))
 
-pub run-exists-plain : (es : List Event) (l : PlainLink) → plainView l ≡ fresh → History plainView es l
-run-exists-plain es l e = history-exists plain-covers es l (subst Fits (sym e) fits-fresh)
+  pub run-exists-plain : (es : List Event) (l : PlainLink) → plainView l ≡ fresh d → History plainView es l
+  run-exists-plain es l e = history-exists plain-covers es l (subst Fits (sym e) (fits-fresh d))

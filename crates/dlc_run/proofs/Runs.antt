@@ -4,6 +4,7 @@
 --   run-by-the-table, final-by-the-table   all that is observed, and the link at the end as it is seen, are the table's
 --   runs-alike                             two links of the same view, two histories of the same events
 --   run-formed                             a well-formed link stays so, and 27 is never answered
+--   run-edition                            a link's edition is never changed, by RESET neither
 use Prim.Native.Nat.{ℕ}
 use mathlib.Core.Path.{_≡_, refl, sym, ap, _∙_}
 use mathlib.Core.Bool.{Bool, true, false, cond}
@@ -13,6 +14,7 @@ use Rattle.dlc_table.specs.Answers.{badLink}
 use Rattle.dlc_table.specs.Model.{Model}
 use Rattle.dlc_table.specs.Runs.{Event, start, timer, payload, arrival, effectOf, modelAfter}
 use Rattle.dlc_table.proofs.StaysFormed.{effect-keeps, never-badLink, run-keeps}
+use Rattle.dlc_table.proofs.StaysFormed as table
 use Rattle.dlc_queue.specs.Queue.{slots}
 use Rattle.dlc_answer.specs.declared.Answer.{Answer}
 use Rattle.dlc_answer.specs.Delivered.{deliveredPart}
@@ -78,6 +80,10 @@ module _ {L : Type 0} (v : L → Model) where
     ap (λ (m : Model). m .ok) (final-by-the-table es l h) ∙ run-keeps slots es (v l) ∙ ok,
     rw (run-by-the-table es l h) (tableTrace-never slots es (v l) ok),
   )
+
+  -- ---- the edition is set when the link is made, and stays
+  pub run-edition : (es : List Event) (l : L) (h : History v es l) → v (final v es l h) .edition ≡ v l .edition
+  run-edition es l h = ap (λ (m : Model). m .edition) (final-by-the-table es l h) ∙ table.run-edition slots es (v l)
 
 -- ---- two types of links
 pub runs-alike : {L L′ : Type 0} (v : L → Model) (v′ : L′ → Model) (es : List Event) (l : L) (l′ : L′) → v l ≡ v′ l′ → (h : History v es l) (h′ : History v′ es l′)

@@ -27,8 +27,8 @@ use Rattle.dlc_table.specs.Runs.{Event, start, timer, payload, arrival, 
 use Rattle.dlc_table.proofs.Rows.{taken, other}
 
 pub record Entries (limit : ℕ) (m : Model) (P : Effect → Type 0) : Type 0 where
-  -- a refusal; 27 only where the link is not well formed
-  pub refused : (c : ℕ) → refuses c ≡ true → (m .ok ≡ true → c ≢ badLink) → P (refuse m c)
+  -- a refusal; 27 only where the link is not well formed, and no number above it
+  pub refused : (c : ℕ) → refuses c ≡ true → c ≤ badLink → (m .ok ≡ true → c ≢ badLink) → P (refuse m c)
   -- RESET
   pub clears : P (cleared m)
   -- start in DLIDLE, RESET_ACK in DLRESET
@@ -51,7 +51,7 @@ not-false false e = sym e
 
 module _ {limit : ℕ} {m : Model} {P : Effect → Type 0} (h : Entries limit m P) where
   none : P (refuse m noEntry)
-  none = h .refused noEntry refl (λ _ e. omega (arith, e))
+  none = h .refused noEntry refl (omega arith) (λ _ e. omega (arith, e))
 
   start-entry : (s : State) → m .state ≡ s → P (startStep m s)
   start-entry Idle e = h .starts e
@@ -91,7 +91,7 @@ module _ {limit : ℕ} {m : Model} {P : Effect → Type 0} (h : Entries limit m 
       (λ _. none)
 
   packet-entry : (k : Kind) → P (packetStep m k)
-  packet-entry Invalid = h .refused badPacket refl (λ _ e. omega (arith, e))
+  packet-entry Invalid = h .refused badPacket refl (omega arith) (λ _ e. omega (arith, e))
   packet-entry ResetKind = h .clears
   packet-entry ResetAck = reset-ack-entry (m .state) refl
   packet-entry (DataKind x) = data-entry (m .state) refl x
@@ -99,16 +99,16 @@ module _ {limit : ℕ} {m : Model} {P : Effect → Type 0} (h : Entries limit m 
 
   payload-entry : (p : List ℕ) → P (guarded (payloadRefusals limit m p) (refuse m) (queued m p))
   payload-entry p =
-      either P (ltb maxPayload (length p)) (λ _. h .refused payloadTooLong refl (λ _ e. omega (arith, e)))
-      (λ short. either P (not (isOpen (m .state))) (λ _. h .refused notOpen refl (λ _ e. omega (arith, e)))
-      (λ up. either P (leb limit (length (m .queue))) (λ _. h .refused queueFull refl (λ _ e. omega (arith, e)))
+      either P (ltb maxPayload (length p)) (λ _. h .refused payloadTooLong refl (omega arith) (λ _ e. omega (arith, e)))
+      (λ short. either P (not (isOpen (m .state))) (λ _. h .refused notOpen refl (omega arith) (λ _ e. omega (arith, e)))
+      (λ up. either P (leb limit (length (m .queue))) (λ _. h .refused queueFull refl (omega arith) (λ _ e. omega (arith, e)))
       (λ room. h .queues p (not-false (isOpen (m .state)) up) (ltb-false maxPayload (length p) short) (leb-false limit (length (m .queue)) room))))
 
   -- behind the two refusals that all calls share; bad says that the link is not well formed
   shared : (bad short : Bool) (ts : List Refusal) (d : Effect) → bad ≡ not (m .ok) → P (guarded ts (refuse m) d)
       → P (guarded ((bad, badLink) ∷ (short, replyTooSmall) ∷ ts) (refuse m) d)
-  shared true short ts d e row = h .refused badLink refl (λ ok. absurd (false≢true (sym (e ∙ ap not ok))))
-  shared false true ts d e row = h .refused replyTooSmall refl (λ _ z. omega (arith, z))
+  shared true short ts d e row = h .refused badLink refl (omega arith) (λ ok. absurd (false≢true (sym (e ∙ ap not ok))))
+  shared false true ts d e row = h .refused replyTooSmall refl (omega arith) (λ _ z. omega (arith, z))
   shared false false ts d e row = row
 
   call-entry : (room : ℕ) (ts : List Refusal) (d : Effect) → P (guarded ts (refuse m) d) → P (guarded (callRefusals limit m room ++ ts) (refuse m) d)

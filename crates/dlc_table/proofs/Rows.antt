@@ -7,13 +7,22 @@ use mathlib.Core.List.{List, [], _∷_, _++_}
 use lib.ListN.{length}
 use lib.Dec.{ltb, leb}
 use borrow.Author.Tests.{lt-ltb, le-leb, lt-leb, eq-eqb, ne-eqb}
-use Rattle.dlc_packet.specs.Numbers.{modulus, advance}
+use Rattle.dlc_packet.specs.Numbers.{modulus, advance, edition1, editionOf, knownEdition}
 use Rattle.dlc_packet.specs.Packet.{dataPacket, dataPackets}
 use Rattle.dlc_table.specs.declared.State.{State}
 use Rattle.dlc_table.specs.declared.State.the-variants.{Idle, Reset, Data, Wait}
-use Rattle.dlc_table.specs.Answers.{done, noEntry, otherNumber}
-use Rattle.dlc_table.specs.Model.{Model}
-use Rattle.dlc_table.specs.Events.{Effect, effect, refuse, expectNext, dackOf, judged, dataStep, isOpen, without, distanceOf, acknowledged, resetAckStep, dackStep, timerStep, withPayload, queued}
+use Rattle.dlc_table.specs.Answers.{done, noEntry, otherNumber, badEdition}
+use Rattle.dlc_table.specs.Model.{Model, fresh}
+use Rattle.dlc_table.specs.Events.{Effect, effect, refuse, madeOf, expectNext, dackOf, judged, dataStep, isOpen, without, distanceOf, acknowledged, resetAckStep, dackStep, timerStep, withPayload, queued}
+
+-- a link is made, by whether its edition is known
+pub made-known : (n : ℕ) → knownEdition n ≡ true → madeOf n ≡ effect done [] (fresh (editionOf n))
+unfolding madeOf
+made-known n e = rw e
+
+pub made-unknown : (n : ℕ) → knownEdition n ≡ false → madeOf n ≡ refuse (fresh edition1) badEdition
+unfolding madeOf
+made-unknown n e = rw e
 
 -- DATA with the expected number, and with another
 abbrev pub taken : Model → Effect

@@ -1,13 +1,13 @@
 -- What is so of every event, whatever the limit. It leaves its link rebuilt: what is no state, queue or number of it is as it was; so no event, and no
--- list of events, changes whether a link is well formed. A refusal does nothing but answer its number. 27 is answered only where a link is not well
--- formed. Assumes nothing.
-use Prim.Native.Nat.{ℕ}
+-- list of events, changes a link's edition, or whether it is well formed. A refusal does nothing but answer its number. 27 is answered only where a
+-- link is not well formed, 28 by no event. Assumes nothing.
+use Prim.Native.Nat.{ℕ, _≤_}
 use native.Mathlib.Omega.{arith}
 use mathlib.Core.Path.{_≡_, refl, sym, ap, _∙_}
 use mathlib.Core.Logic.{_≢_}
 use mathlib.Core.Bool.{true, false, false≢true}
 use mathlib.Core.List.{List, [], _∷_}
-use Rattle.dlc_table.specs.Answers.{done, badLink, refuses}
+use Rattle.dlc_table.specs.Answers.{done, badLink, badEdition, refuses}
 use Rattle.dlc_table.specs.Model.{Model, rebuilt}
 use Rattle.dlc_table.specs.Events.{Effect, refuse}
 use Rattle.dlc_table.specs.Runs.{Event, effectOf, modelAfter}
@@ -25,27 +25,28 @@ record Fine (m : Model) (d : Effect) : Type 0 where
   rebuilds : Rebuilds m d
   refused : Refuses m d
   other : m .ok ≡ true → d .code ≢ badLink
+  below : d .code ≤ badLink
 
 module _ (m : Model) where
   -- an entry that is no refusal
-  passes : (d : Effect) → Rebuilds m d → refuses (d .code) ≡ false → d .code ≢ badLink → Fine m d
-  passes d r e o = record { rebuilds = r; refused = λ t. absurd (false≢true (sym e ∙ t)); other = λ _. o }
+  passes : (d : Effect) → Rebuilds m d → refuses (d .code) ≡ false → d .code ≢ badLink → d .code ≤ badLink → Fine m d
+  passes d r e o b = record { rebuilds = r; refused = λ t. absurd (false≢true (sym e ∙ t)); other = λ _. o; below = b }
 
   goes : done ≢ badLink
   goes e = omega (arith, e)
 
   entries : (limit : ℕ) → Entries limit m (Fine m)
   entries limit = record {
-    refused = λ c e o. record { rebuilds = refl; refused = λ _. refl; other = o };
-    clears = passes _ refl refl goes;
-    starts = λ s. passes _ refl refl goes;
-    opens = λ s. passes _ refl refl goes;
-    delivers = λ s. passes _ refl refl goes;
-    repeats = λ s. passes _ refl refl (λ e. omega (arith, e));
-    removes = λ n s l h. passes _ refl refl goes;
-    asks = λ s. passes _ refl refl goes;
-    sends = λ s. passes _ refl refl goes;
-    queues = λ p s l h. passes _ refl refl goes;
+    refused = λ c e b o. record { rebuilds = refl; refused = λ _. refl; other = o; below = b };
+    clears = passes _ refl refl goes (omega arith);
+    starts = λ s. passes _ refl refl goes (omega arith);
+    opens = λ s. passes _ refl refl goes (omega arith);
+    delivers = λ s. passes _ refl refl goes (omega arith);
+    repeats = λ s. passes _ refl refl (λ e. omega (arith, e)) (omega arith);
+    removes = λ n s l h. passes _ refl refl goes (omega arith);
+    asks = λ s. passes _ refl refl goes (omega arith);
+    sends = λ s. passes _ refl refl goes (omega arith);
+    queues = λ p s l h. passes _ refl refl goes (omega arith);
   }
 
 module _ (limit : ℕ) where
@@ -60,6 +61,18 @@ module _ (limit : ℕ) where
 
   pub never-badLink : (e : Event) (m : Model) → m .ok ≡ true → effectOf limit e m .code ≢ badLink
   never-badLink e m = event-entries (entries m limit) e .other
+
+  -- 28 is the maker's alone
+  pub never-badEdition : (e : Event) (m : Model) → effectOf limit e m .code ≢ badEdition
+  never-badEdition e m z = omega (arith, event-entries (entries m limit) e .below, z)
+
+  -- the edition survives every event, RESET too
+  pub effect-edition : (e : Event) (m : Model) → effectOf limit e m .after .edition ≡ m .edition
+  effect-edition e m = ap (λ (m : Model). m .edition) (effect-rebuilds e m)
+
+  pub run-edition : (es : List Event) (m : Model) → modelAfter limit es m .edition ≡ m .edition
+  run-edition [] m = refl
+  run-edition (e ∷ es) m = run-edition es (effectOf limit e m .after) ∙ effect-edition e m
 
   pub run-keeps : (es : List Event) (m : Model) → modelAfter limit es m .ok ≡ m .ok
   run-keeps [] m = refl

@@ -38,6 +38,10 @@ replyTooSmall = 26
 abbrev pub badLink : ℕ
 badLink = 27
 
+-- edition not 1 or 2, where a link is made
+abbrev pub badEdition : ℕ
+badEdition = 28
+
 -- a refusal: every number but 0 and 25
 abbrev pub refuses : ℕ → Bool
 refuses c = not (eqb c done) && not (eqb c otherNumber)

@@ -1,6 +1,7 @@
 -- The step table: what each event makes of a link, in the order of the paper's table. Cited by the link's calls. Assumes nothing.
 --
 --   Effect                     an event's answer, the packets that it sends, and the link after it
+--   madeOf                     a link is made: its edition is set
 --   startOf, timerOf, payloadOf, arrivalOf     the four events, refusals in order
 --
 -- The table is over the limit of places: how many payloads a queue holds. A place is a slot here. room is the length of the reply buffer.
@@ -10,14 +11,14 @@ use mathlib.Core.List.{List, [], _∷_, _++_}
 use lib.ListN.{length, drop}
 use lib.Dec.{leb, ltb, eqb}
 use Rattle.common.specs.Refusals.{Refusal, guarded}
-use Rattle.dlc_packet.specs.Numbers.{advance, dackNumber, distance}
+use Rattle.dlc_packet.specs.Numbers.{advance, edition1, editionOf, knownEdition, dackNumber, distance}
 use Rattle.dlc_packet.specs.Packet.{maxPayload, maxPacket, resetPacket, resetAckPacket, dackPacket, dataPacket, dataPackets, kindOf}
 use Rattle.dlc_packet.specs.declared.Kind.{Kind}
 use Rattle.dlc_packet.specs.declared.Kind.the-variants.{Invalid, Reset as ResetKind, ResetAck, Data as DataKind, Dack}
-use Rattle.dlc_table.specs.Answers.{done, notOpen, payloadTooLong, queueFull, badPacket, noEntry, otherNumber, replyTooSmall, badLink}
+use Rattle.dlc_table.specs.Answers.{done, notOpen, payloadTooLong, queueFull, badPacket, noEntry, otherNumber, replyTooSmall, badLink, badEdition}
 use Rattle.dlc_table.specs.declared.State.{State}
 use Rattle.dlc_table.specs.declared.State.the-variants.{Idle, Reset, Data, Wait}
-use Rattle.dlc_table.specs.Model.{Model, rebuilt, inState}
+use Rattle.dlc_table.specs.Model.{Model, rebuilt, inState, fresh}
 
 -- what an event does: its number, whether the upper layer is told to reset, whether the packet's payload is delivered, the packets sent, the link after it
 pub record Effect : Type 0 where
@@ -34,6 +35,11 @@ effect c packets m = record { code = c; upperReset = false; delivered = false; p
 -- "a refusal changes nothing": the link as it is, nothing sent
 abbrev pub refuse : Model → ℕ → Effect
 refuse m c = effect c [] m
+
+-- ---- a link is made
+-- "28 unknown edition, judged when the link is made, edition 1's fresh link given beside it"
+unfoldable pub madeOf : ℕ → Effect
+madeOf n = guarded ((not (knownEdition n), badEdition) ∷ []) (refuse (fresh edition1)) (effect done [] (fresh (editionOf n)))
 
 -- ---- RESET
 -- clear: "queue emptied, all numbers 0, upper layer told to reset, RESET_ACK sent, to DLDATA"
@@ -64,9 +70,10 @@ resetAckStep m Wait = refuse m noEntry
 abbrev pub expectNext : Model → Model
 expectNext m = rebuilt m (m .state) (m .queue) (m .base) (advance (m .expected) 1)
 
--- DACK with the number that the link expects
+-- DACK for the number that the link expects, as its edition has it: at the start DACK 0, under edition 2 "15 at the start"; the link's numbers are 0
+-- either way
 abbrev pub dackOf : Model → List ℕ
-dackOf m = dackPacket (dackNumber (m .expected))
+dackOf m = dackPacket (dackNumber (m .edition) (m .expected))
 
 -- judge: "if x is the awaited number, hand the payload up and count on; else answer 25 and hand up nothing. Either way send DACK with the number now awaited."
 abbrev pub judged : Model → ℕ → Effect
@@ -93,9 +100,9 @@ without m n =
     let left = drop n (m .queue) in
     rebuilt m (stateOf left) left (advance (m .base) n) (m .expected)
 
--- the distance of a DACK x
+-- the distance of a DACK x, as the link's edition has it
 abbrev pub distanceOf : Model → ℕ → ℕ
-distanceOf m x = distance (m .base) x
+distanceOf m x = distance (m .edition) (m .base) x
 
 -- remove: "distance 1 up to the queue's length removes that many oldest; another distance answers 24"
 abbrev pub acknowledged : Model → ℕ → Effect

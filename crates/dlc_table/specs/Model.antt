@@ -1,8 +1,9 @@
--- A link as the paper has it: state, queue, the number of the oldest payload and the expected one. Cited by the step table and by whoever views a
+-- A link as the paper has it: state, queue, the number of the oldest payload and the expected one, and the edition by which it reads DACK. Cited by the step table and by whoever views a
 -- link value. Assumes nothing.
 use Prim.Native.Nat.{ℕ}
 use mathlib.Core.Bool.{Bool, true}
 use mathlib.Core.List.{List, []}
+use Rattle.dlc_packet.specs.Numbers.{Edition}
 use Rattle.dlc_table.specs.declared.State.{State}
 use Rattle.dlc_table.specs.declared.State.the-variants.{Idle, Data}
 
@@ -13,19 +14,21 @@ pub record Model : Type 0 where
   pub queue : List (List ℕ)
   pub base : ℕ
   pub expected : ℕ
+  pub edition : Edition
 
--- the link with another state, queue and numbers; whatever else it has goes along. Every row of the table makes its link so
+-- the link with another state, queue and numbers; its edition goes along, over RESET too: "the edition is set when a fresh link is made and survives
+-- RESET" (2026-08). Every row of the table makes its link so
 abbrev pub rebuilt : Model → State → List (List ℕ) → ℕ → ℕ → Model
-rebuilt m s q b e = record { ok = m .ok; state = s; queue = q; base = b; expected = e }
+rebuilt m s q b e = record { ok = m .ok; state = s; queue = q; base = b; expected = e; edition = m .edition }
 
 -- the link in another state
 abbrev pub inState : State → Model → Model
 inState s m = rebuilt m s (m .queue) (m .base) (m .expected)
 
--- "a fresh link is in DLIDLE with empty queue and numbers 0"
-abbrev pub fresh : Model
-fresh = record { ok = true; state = Idle; queue = []; base = 0; expected = 0 }
+-- "a fresh link is in DLIDLE with empty queue and numbers 0", in either edition
+abbrev pub fresh : Edition → Model
+fresh d = record { ok = true; state = Idle; queue = []; base = 0; expected = 0; edition = d }
 
 -- a link that RESET has just cleared: in DLDATA with empty queue and numbers 0
-abbrev pub opened : Model
-opened = inState Data fresh
+abbrev pub opened : Edition → Model
+opened d = inState Data (fresh d)

@@ -9,7 +9,7 @@ pub enum State {
     Wait,
 }
 
-// The numbers that events answer; all but DONE and OTHER_NUMBER are refusals, which change nothing.
+// The numbers that events answer, BAD_EDITION where a link is made; all but DONE and OTHER_NUMBER are refusals, which change nothing.
 pub const DONE: u8 = 0;
 
 pub const NOT_OPEN: u8 = 20;
@@ -27,3 +27,5 @@ pub const OTHER_NUMBER: u8 = 25;
 pub const REPLY_TOO_SMALL: u8 = 26;
 
 pub const BAD_LINK: u8 = 27;
+
+pub const BAD_EDITION: u8 = 28;

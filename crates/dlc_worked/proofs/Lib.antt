@@ -1,3 +1,4 @@
 pub mod Worked
 pub mod Larger
 pub mod Sixteen
+pub mod Editions

@@ -5,20 +5,24 @@ use mathlib.Core.Path.{_≡_, refl, sym, ap, _∙_}
 use mathlib.Core.List.{List, [], _∷_, _++_, map}
 use lib.Dec.{T}
 use lib.ListN.{length, replicate}
-use Rattle.dlc_table.specs.Model.{Model, opened}
-use Rattle.dlc.specs.Limits.{modulus, slots, maxPayload, replySize}
-use Rattle.dlc_run.specs.Replies.{Octets}
-use Rattle.window.specs.Sides.{Side, left, right}
+use Rattle.dlc_packet.specs.Numbers.{Edition, edition1, edition2}
+use Rattle.dlc_table.specs.Model.{Model}
+use Rattle.dlc.specs.Limits.{modulus, slots, maxPayload}
+use Rattle.dlc_run.specs.Replies.{Octets, Packets}
+use Rattle.window.specs.Sides.{Side, left, right, Both}
 use Rattle.window.specs.Ends.{Rules, End as Peer}
-use Rattle.window.specs.Events.{fresh, start as packetStart}
+use Rattle.window.specs.Events.{start as packetStart}
 use Rattle.window.proofs.Deciding.{timerWaits, timerWaits-true}
-use Rattle.dlc_pair.specs.World.{dataSent, initial}
+use Rattle.dlc_pair.specs.World.{World, dataSent, initial}
 use Rattle.dlc_pair.specs.History.{payload, timer, arrival, loss, Event, after, History, final, TimerWaits}
-use Rattle.dlc_pair.proofs.Relation.{BothFollow, follow-initial}
+use Rattle.dlc_pair.specs.Demand3.{BothOpen}
+use Rattle.dlc_pair.specs.Rules.{rules}
+use Rattle.dlc_pair.proofs.Relation.{BothFollow}
 use Rattle.dlc_pair.proofs.Simulates.{Simulates}
 use Rattle.dlc_pair.proofs.Effects.{simulates}
+use Rattle.dlc_pair.proofs.Demand3.{open-follow}
 use Rattle.dlc_pair.proofs.Runs.{eventOf, runOf, run-follows, timerWaits-back}
-use Rattle.dlc_worked.specs.Script.{at, payloadsFrom, offered, arrivals}
+use Rattle.dlc_worked.specs.Script.{buffer, at, payloadsFrom, offered, arrivals}
 
 -- ---- at an empty line an arrival and a loss change nothing; L is a type of links, v its view
 pub arrival-nothing : {L : Type 0} (v : L → Model) (l l′ : L) (before : Octets) → after v (arrival before) (initial l l′) tt ≡ initial l l′
@@ -28,18 +32,31 @@ pub loss-nothing : {L : Type 0} (v : L → Model) (l l′ : L) (n : ℕ) → aft
 loss-nothing v l l′ n = refl
 
 -- ---- what a run gives, of every history of its events; of whatever rules and models the step table simulates
-module _ {rules : Rules} {modelOf : Peer → Model} (table : Simulates slots rules modelOf) {L : Type 0} (v : L → Model) (l l′ : L)
-    (e : v l ≡ modelOf fresh) (e′ : v l′ ≡ modelOf fresh) (es : List Event) (h : History v es (initial l l′)) where
-  followed : BothFollow modelOf v (final v es (initial l l′) h) (runOf slots rules es packetStart)
-  followed = run-follows table es (follow-initial (table .holds) l l′ e e′) h
+module _ {rules : Rules} {modelOf : Peer → Model} (table : Simulates slots rules modelOf) {L : Type 0} {v : L → Model} {w : World L}
+    (f : BothFollow modelOf v w packetStart) (es : List Event) (h : History v es w) where
+  followed : BothFollow modelOf v (final v es w h) (runOf slots rules es packetStart)
+  followed = run-follows table es f h
 
-  waited : (d : Side) → T (timerWaits rules d (map (eventOf slots) es) packetStart) → TimerWaits v d es (initial l l′) h
-  waited d t = timerWaits-back table d es (follow-initial (table .holds) l l′ e e′) h (timerWaits-true rules d (map (eventOf slots) es) packetStart t)
+  waited : (d : Side) → T (timerWaits rules d (map (eventOf slots) es) packetStart) → TimerWaits v d es w h
+  waited d t = timerWaits-back table d es f h (timerWaits-true rules d (map (eventOf slots) es) packetStart t)
+
+-- ---- the packet system's run, by computation in each edition
+module _ (es : List Event) (d : Edition) where
+  abbrev ends : Both Peer
+  ends = runOf slots (rules d slots) es packetStart
+
+  abbrev Waited : Side → Type 0
+  Waited side = T (timerWaits (rules d slots) side (map (eventOf slots) es) packetStart)
+
+-- what came of a run from one end to the other
+record OneWay (a a′ : Peer) (ps qs : Packets) (n k b : ℕ) : Type 0 where
+  accepted : a .sender .accepted ≡ ps
+  delivered : a′ .receiver .delivered ≡ qs
+  sent : a .sender .sent ≡ n
+  lost : a .sender .lost ≡ k
+  base : a .sender .base ≡ b
 
 -- ---- events
-abbrev buffer : Octets
-buffer = replicate replySize 0
-
 -- as many payloads as there are slots are offered, each sent as it is accepted, and delivered and acknowledged; no timer is called
 abbrev wholeRound : ℕ → List Event
 wholeRound n = offered buffer (payloadsFrom slots n) ++ arrivals buffer slots right ++ arrivals buffer slots left
@@ -76,19 +93,33 @@ pub record Worked {L : Type 0} (v : L → Model) (l l′ : L) (h : History v wor
   pub waits : TimerWaits v left workedEvents (initial l l′) h
 
 -- the payloads queue by queue; compared with the run as one list they would take too many steps
-three-queues : payloadsFrom slots 1 ++ payloadsFrom slots (slots + 1) ++ payloadsFrom slots (2 * slots + 1) ≡ payloadsFrom (3 * slots) 1
+abbrev threeQueues : Packets
+threeQueues = payloadsFrom slots 1 ++ payloadsFrom slots (slots + 1) ++ payloadsFrom slots (2 * slots + 1)
+
+three-queues : threeQueues ≡ payloadsFrom (3 * slots) 1
 three-queues = refl
 
-pub worked : {L : Type 0} (v : L → Model) (l l′ : L) → v l ≡ opened → v l′ ≡ opened → (h : History v workedEvents (initial l l′)) → Worked v l l′ h
-worked v l l′ e e′ h =
-    let f = followed (simulates slots) v l l′ e e′ workedEvents h in
+worked-run : (d : Edition) → OneWay (ends workedEvents d .left) (ends workedEvents d .right) threeQueues threeQueues (5 * slots - 4) 2 ((3 * slots) % modulus)
+worked-run edition1 = record { accepted = refl; delivered = refl; sent = refl; lost = refl; base = refl }
+worked-run edition2 = record { accepted = refl; delivered = refl; sent = refl; lost = refl; base = refl }
+
+worked-waits : (d : Edition) → Waited workedEvents d left
+worked-waits edition1 = tt
+worked-waits edition2 = tt
+
+pub worked : {L : Type 0} (v : L → Model) (l l′ : L) → BothOpen v l l′ → (h : History v workedEvents (initial l l′)) → Worked v l l′ h
+worked v l l′ o h =
+    let d = v l .edition in
+    let table = simulates d slots in
+    let f = followed table (open-follow o) workedEvents h in
+    let came = worked-run d in
     record {
-      accepted = f .left .accepted ∙ three-queues;
-      delivered = f .right .delivered ∙ three-queues;
-      sent = f .left .sent;
-      lost = f .left .lost;
-      base = ap (λ (m : Model). m .base) (f .left .model);
-      waits = waited (simulates slots) v l l′ e e′ workedEvents h left tt;
+      accepted = f .left .accepted ∙ came .accepted ∙ three-queues;
+      delivered = f .right .delivered ∙ came .delivered ∙ three-queues;
+      sent = f .left .sent ∙ came .sent;
+      lost = f .left .lost ∙ came .lost;
+      base = ap (λ (m : Model). m .base) (f .left .model) ∙ came .base;
+      waits = waited table (open-follow o) workedEvents h left (worked-waits d);
     }
 
 -- ---- the queue is filled, each payload sent as it is accepted, and the first is lost; the others are answered by 25, and the timer sends all again:
@@ -108,15 +139,29 @@ pub record Tight {L : Type 0} (v : L → Model) (l l′ : L) (h : History v tigh
       ≡ length (final v tightEvents (initial l l′) h .left .accepted) + slots * final v tightEvents (initial l l′) h .left .lost
   pub waits : TimerWaits v left tightEvents (initial l l′) h
 
-pub tight : {L : Type 0} (v : L → Model) (l l′ : L) → v l ≡ opened → v l′ ≡ opened → (h : History v tightEvents (initial l l′)) → Tight v l l′ h
-tight v l l′ e e′ h =
-    let f = followed (simulates slots) v l l′ e e′ tightEvents h in
+tight-run : (d : Edition) → OneWay (ends tightEvents d .left) (ends tightEvents d .right) (payloadsFrom slots 1) [] (2 * slots) 1 0
+tight-run edition1 = record { accepted = refl; delivered = refl; sent = refl; lost = refl; base = refl }
+tight-run edition2 = record { accepted = refl; delivered = refl; sent = refl; lost = refl; base = refl }
+
+tight-waits : (d : Edition) → Waited tightEvents d left
+tight-waits edition1 = tt
+tight-waits edition2 = tt
+
+pub tight : {L : Type 0} (v : L → Model) (l l′ : L) → BothOpen v l l′ → (h : History v tightEvents (initial l l′)) → Tight v l l′ h
+tight v l l′ o h =
+    let d = v l .edition in
+    let table = simulates d slots in
+    let f = followed table (open-follow o) tightEvents h in
+    let came = tight-run d in
+    let sent = f .left .sent ∙ came .sent in
+    let accepted = f .left .accepted ∙ came .accepted in
+    let lost = f .left .lost ∙ came .lost in
     record {
-      sent = f .left .sent;
-      accepted = f .left .accepted;
-      lost = f .left .lost;
-      bound = f .left .sent ∙ sym (λ i. length (f .left .accepted i) + slots * f .left .lost i);
-      waits = waited (simulates slots) v l l′ e e′ tightEvents h left tt;
+      sent = sent;
+      accepted = accepted;
+      lost = lost;
+      bound = sent ∙ sym (λ i. length (accepted i) + slots * lost i);
+      waits = waited table (open-follow o) tightEvents h left (tight-waits d);
     }
 
 -- ---- both ends send, and each end's DATA is lost once. Each timer is called while the other end's DATA is on the line, and its premise holds: it
@@ -145,16 +190,28 @@ pub record Duplex {L : Type 0} (v : L → Model) (l l′ : L) (h : History v dup
   pub leftWaits : TimerWaits v left duplexEvents (initial l l′) h
   pub rightWaits : TimerWaits v right duplexEvents (initial l l′) h
 
-pub duplex : {L : Type 0} (v : L → Model) (l l′ : L) → v l ≡ opened → v l′ ≡ opened → (h : History v duplexEvents (initial l l′)) → Duplex v l l′ h
-duplex v l l′ e e′ h =
-    let f = followed (simulates slots) v l l′ e e′ duplexEvents h in
+duplex-run : (d : Edition) → OneWay (ends duplexEvents d .left) (ends duplexEvents d .right) ((1 ∷ []) ∷ []) ((1 ∷ []) ∷ []) 2 1 1
+    × OneWay (ends duplexEvents d .right) (ends duplexEvents d .left) ((2 ∷ []) ∷ []) ((2 ∷ []) ∷ []) 2 1 1
+duplex-run edition1 = (record { accepted = refl; delivered = refl; sent = refl; lost = refl; base = refl }, record { accepted = refl; delivered = refl; sent = refl; lost = refl; base = refl })
+duplex-run edition2 = (record { accepted = refl; delivered = refl; sent = refl; lost = refl; base = refl }, record { accepted = refl; delivered = refl; sent = refl; lost = refl; base = refl })
+
+duplex-waits : (d : Edition) → Waited duplexEvents d left × Waited duplexEvents d right
+duplex-waits edition1 = (tt, tt)
+duplex-waits edition2 = (tt, tt)
+
+pub duplex : {L : Type 0} (v : L → Model) (l l′ : L) → BothOpen v l l′ → (h : History v duplexEvents (initial l l′)) → Duplex v l l′ h
+duplex v l l′ o h =
+    let d = v l .edition in
+    let table = simulates d slots in
+    let f = followed table (open-follow o) duplexEvents h in
+    let came = duplex-run d in
     record {
-      leftToRight = f .right .delivered;
-      rightToLeft = f .left .delivered;
-      leftSent = f .left .sent;
-      leftLost = f .left .lost;
-      rightSent = f .right .sent;
-      rightLost = f .right .lost;
-      leftWaits = waited (simulates slots) v l l′ e e′ duplexEvents h left tt;
-      rightWaits = waited (simulates slots) v l l′ e e′ duplexEvents h right tt;
+      leftToRight = f .right .delivered ∙ came .0 .delivered;
+      rightToLeft = f .left .delivered ∙ came .1 .delivered;
+      leftSent = f .left .sent ∙ came .0 .sent;
+      leftLost = f .left .lost ∙ came .0 .lost;
+      rightSent = f .right .sent ∙ came .1 .sent;
+      rightLost = f .right .lost ∙ came .1 .lost;
+      leftWaits = waited table (open-follow o) duplexEvents h left (duplex-waits d .0);
+      rightWaits = waited table (open-follow o) duplexEvents h right (duplex-waits d .1);
     }

@@ -1,10 +1,14 @@
--- Events of worked runs, each call with the reply buffer that is given. Cited by the runs. Assumes nothing.
+-- Events of worked runs, each call with the reply buffer that is given, and a buffer that is long enough. Cited by the runs. Assumes nothing.
 use Prim.Native.Nat.{ℕ, zero, suc}
 use mathlib.Core.List.{List, [], _∷_, map}
 use lib.ListN.{replicate}
+use Rattle.dlc.specs.Limits.{replySize}
 use Rattle.dlc_run.specs.Replies.{Octets, Packets}
 use Rattle.window.specs.Sides.{Side, left}
 use Rattle.dlc_pair.specs.History.{Act, payload, arrival, Event}
+
+abbrev pub buffer : Octets
+buffer = replicate replySize 0
 
 abbrev pub at : Side → Act → Event
 at d a = record { side = d; act = a }

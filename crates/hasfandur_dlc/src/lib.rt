@@ -1,15 +1,13 @@
 // The DLC link as C programs call it: include/hasfandur.h declares each function here and says its contract in words.
 // The link crosses in plain numbers: any number may come. Each event takes a link and gives it back with an answer.
-ghost use mathlib.Core.Path.{_≡_};
-ghost use Rattle.dlc_table.specs.Model.{fresh};
-ghost use Rattle.dlc.specs.Calls.{StartCall, TimerCall, PayloadCall, ArrivalCall};
+ghost use Rattle.dlc.specs.Calls.{MakeCall, StartCall, TimerCall, PayloadCall, ArrivalCall};
 ghost use Rattle.dlc_plain.specs.Plain.{view};
 
 #[no_mangle]
-pub extern "C" fn hasfandur_dlc_fresh() -> dlc_plain::PlainLink
-    ensures { λ r. ⌜ view r ≡ fresh ⌝ }
+pub extern "C" fn hasfandur_dlc_fresh(edition: u8) -> dlc_plain::PlainOutcome
+    ensures { λ r. ⌜ MakeCall view edition (r .link) (r .answer) ⌝ }
 {
-    dlc_plain::PlainLink::new()
+    dlc_plain::PlainLink::make(edition)
 }
 
 #[no_mangle]

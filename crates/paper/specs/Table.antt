@@ -5,6 +5,7 @@ use mathlib.Core.Bool.{false}
 use mathlib.Core.List.{List, [], _∷_, _++_}
 use lib.ListN.{replicate}
 use Rattle.framing.specs.Reports.{reportsOf}
+use Rattle.dlc_packet.specs.Numbers.{edition1}
 use Rattle.dlc_packet.specs.Packet.{dackPacket}
 use Rattle.dlc_table.specs.declared.State.the-variants.{Data, Wait}
 use Rattle.dlc_table.specs.Answers.{done, noEntry}
@@ -69,9 +70,9 @@ abbrev pub Each : List Case → Type 0
 Each [] = Unit
 Each (k ∷ ks) = Holds k × Each ks
 
--- "DLDWAIT, numbers 14 and 15 queued"
+-- "DLDWAIT, numbers 14 and 15 queued", in edition 1, which is the paper's
 abbrev pub waiting : Model
-waiting = rebuilt opened Wait ((1 ∷ []) ∷ (2 ∷ []) ∷ []) 14 0
+waiting = rebuilt (opened edition1) Wait ((1 ∷ []) ∷ (2 ∷ []) ∷ []) 14 0
 
 -- the same link with its queue emptied
 abbrev pub emptied : Model

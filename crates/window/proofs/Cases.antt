@@ -6,16 +6,16 @@ use mathlib.Core.List.{[], _∷_}
 use mathlib.Core.Option.{some}
 use native.Mathlib.Omega.{arith}
 use lib.ListN.{length}
-use Rattle.dlc_packet.specs.Numbers.{dackNumber, distance}
+use Rattle.dlc_packet.specs.Numbers.{edition1, dackNumber, distance}
 use Rattle.window.specs.Sides.{left, right, Both, eraseAt}
 use Rattle.window.specs.Packets.{dataPdu, dackPdu, numbered}
 use Rattle.window.specs.Ends.{Rules, Sender, End, applyDack}
 use Rattle.window.specs.Events.{offer, timeout, receive, lose, start, loseAt, run, Drained}
 use Rattle.window.specs.Claim.{exchange}
 
--- a window that is large enough for the runs below
+-- a window that is large enough for the runs below, and the paper's DACK
 abbrev rules : Rules
-rules = record { window = 2; atOnce = false; dackNumber = dackNumber; distance = distance }
+rules = record { window = 2; atOnce = false; dackNumber = dackNumber edition1; distance = distance edition1 }
 
 pub erased : eraseAt {A = ℕ} 1 (5 ∷ 6 ∷ 7 ∷ []) ≡ 5 ∷ 7 ∷ []
 erased = refl
@@ -31,16 +31,16 @@ numbers-restart = refl
 abbrev waiting : Sender
 waiting = record { queue = (1 ∷ []) ∷ (2 ∷ []) ∷ []; base = 14; accepted = (1 ∷ []) ∷ (2 ∷ []) ∷ []; sent = 2; lost = 0 }
 
-pub dack-0 : applyDack (distance 14 0) waiting .queue ≡ []
+pub dack-0 : applyDack (distance edition1 14 0) waiting .queue ≡ []
 dack-0 = refl
 
-pub dack-15 : applyDack (distance 14 15) waiting .queue ≡ (2 ∷ []) ∷ []
+pub dack-15 : applyDack (distance edition1 14 15) waiting .queue ≡ (2 ∷ []) ∷ []
 dack-15 = refl
 
-pub dack-14 : applyDack (distance 14 14) waiting ≡ waiting
+pub dack-14 : applyDack (distance edition1 14 14) waiting ≡ waiting
 dack-14 = refl
 
-pub dack-1 : applyDack (distance 14 1) waiting ≡ waiting
+pub dack-1 : applyDack (distance edition1 14 1) waiting ≡ waiting
 dack-1 = refl
 
 -- a lost DATA counts for its sender, a lost DACK for the end that it was sent to

@@ -1,11 +1,11 @@
 -- Rules to which the theorem applies, runs that meet its bound, and why sixteen slots are too many. By computation. Assumes nothing.
-use Prim.Native.Nat.{ℕ, _+_, _-_, _*_, _%_, _≤_, _<_}
+use Prim.Native.Nat.{ℕ, _+_, _-_, _*_, _<_}
 use mathlib.Core.Path.{_≡_, refl}
 use mathlib.Core.Bool.{Bool, true, false}
 use mathlib.Core.List.{List, [], _∷_, _++_}
 use native.Mathlib.Omega.{arith}
 use lib.ListN.{length, replicate}
-use Rattle.dlc_packet.specs.Numbers.{dackNumber, distance}
+use Rattle.dlc_packet.specs.Numbers.{Edition, edition1, dackNumber, distance}
 use Rattle.dlc_packet.proofs.Numbers.{distance-dackNumber}
 use Rattle.window.specs.Sides.{Side, left, right}
 use Rattle.window.specs.Packets.{modulus}
@@ -15,29 +15,20 @@ use Rattle.window.specs.Claim.{SlidingWindow}
 use Rattle.window.proofs.SlidingWindow.{sliding-window}
 use Rattle.window.proofs.Deciding.{timerWaits-true}
 
--- ---- rules: a window, whether payloads are sent at once, and the paper's DACK, which carries the number expected
-abbrev pub expecting : ℕ → Bool → Rules
-expecting w once = record { window = w; atOnce = once; dackNumber = dackNumber; distance = distance }
+-- ---- rules: a window, whether payloads are sent at once, and the paper's DACK of an edition
+abbrev pub rulesOf : Edition → ℕ → Bool → Rules
+rulesOf d w once = record { window = w; atOnce = once; dackNumber = dackNumber d; distance = distance d }
 
-pub expecting-lawful : (w : ℕ) (once : Bool) → w < modulus → Lawful (expecting w once)
-expecting-lawful w once h = record { below = h; distance = distance-dackNumber }
+pub rulesOf-lawful : (d : Edition) (w : ℕ) (once : Bool) → w < modulus → Lawful (rulesOf d w once)
+rulesOf-lawful d w once h = record { below = h; distance = distance-dackNumber d }
 
--- a DACK that carries the last number delivered, one less than the one expected ("through x")
-abbrev pub through : ℕ → Bool → Rules
-through w once = record { window = w; atOnce = once; dackNumber = λ x. (x + 15) % modulus; distance = λ b x. (x + 1 + modulus - b) % modulus }
+-- fifteen slots and payloads sent at once, as the link has them (2026-06, 2026-03), in either edition
+pub fifteen : (d : Edition) (es : List Event) → SlidingWindow (rulesOf d 15 true) es
+fifteen d es = sliding-window (rulesOf d 15 true) (rulesOf-lawful d 15 true (omega arith)) es
 
-through-distance : (b k : ℕ) → b ≤ k → k < b + modulus → ((k % modulus + 15) % modulus + 1 + modulus - b % modulus) % modulus ≡ k - b
-through-distance b k h l = omega arith
-
-pub through-lawful : (w : ℕ) (once : Bool) → w < modulus → Lawful (through w once)
-through-lawful w once h = record { below = h; distance = through-distance }
-
--- fifteen slots and payloads sent at once, as the link has them (2026-06, 2026-03), with the paper's DACK and with the other
-pub fifteen : (es : List Event) → SlidingWindow (expecting 15 true) es
-fifteen es = sliding-window (expecting 15 true) (expecting-lawful 15 true (omega arith)) es
-
-pub fifteen-through : (es : List Event) → SlidingWindow (through 15 true) es
-fifteen-through es = sliding-window (through 15 true) (through-lawful 15 true (omega arith)) es
+-- the runs below are of edition 1
+abbrev expecting : ℕ → Bool → Rules
+expecting w once = rulesOf edition1 w once
 
 -- ---- runs
 abbrev pub at : Side → Act → Event

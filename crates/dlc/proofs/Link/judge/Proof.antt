@@ -2,7 +2,7 @@
 use Prim.Native.Nat.{ℕ, _<_}
 use mathlib.Core.Path.{_≡_, refl, sym, ap, _∙_}
 use mathlib.Core.List.{List, [], _∷_}
-use Rattle.dlc_packet.specs.Numbers.{modulus, advance, dackNumber}
+use Rattle.dlc_packet.specs.Numbers.{modulus, advance, editionOf, dackNumber}
 use Rattle.dlc_packet.proofs.Numbers.{dackNumber-below}
 use Rattle.dlc_packet.specs.Packet.{dackPacket}
 use Rattle.dlc_table.specs.Events.{dackOf, expectNext}
@@ -24,8 +24,9 @@ dack-number-requires c κs = tt
 
 add-dack : tie.Need-add-dack
 add-dack c =
+    let l = c .before .before .before .before .args .self in
     let below : c .before .advanced .result < modulus = omega (arith, c .before .advanced .ensures) in
-    omega (arith, c .dack-number .ensures, dackNumber-below _ below)
+    omega (arith, c .dack-number .ensures, dackNumber-below (editionOf (l .edition)) _ below)
 
 send-control-requires : tie.Need-send-control-requires
 send-control-requires c κs = omega (arith, c .before .before .before .before .before .pre .1 .1)
@@ -36,7 +37,7 @@ dack-number-requires-2 c κs = tt
 add-dack-2 : tie.Need-add-dack-2
 add-dack-2 c =
     let s = c .before .before .before in
-    omega (arith, c .dack-number2 .ensures, dackNumber-below _ (parts (s .args .self) (s .pre .0) .expected))
+    omega (arith, c .dack-number2 .ensures, dackNumber-below (editionOf (s .args .self .edition)) _ (parts (s .args .self) (s .pre .0) .expected))
 
 send-control-requires-2 : tie.Need-send-control-requires-2
 send-control-requires-2 c κs = omega (arith, c .before .before .before .before .pre .1 .1)
@@ -48,7 +49,7 @@ returns : tie.Need-returns
 returns c =
     let l = c .before .before .before .before .before .before .before .before .args .self in
     let e : c .before .before .before .before .before .advanced .result ≡ advance (l .expected) 1 = c .before .before .before .before .before .advanced .ensures in
-    let d : dackPacket (c .before .before .before .before .dack-number .result) ≡ dackOf (expectNext (view l)) = ap dackPacket (c .before .before .before .before .dack-number .ensures ∙ ap dackNumber e) in
+    let d : dackPacket (c .before .before .before .before .dack-number .result) ≡ dackOf (expectNext (view l)) = ap dackPacket (c .before .before .before .before .dack-number .ensures ∙ ap (dackNumber (editionOf (l .edition))) e) in
     meets-by (judged-same (view l) (c .before .before .before .before .before .before .before .before .args .x) (c .before .before .before .before .before .before .if1 .taken))
     (one-meets (taken (view l)) l (relinked l (l .state) (l .queue) (l .base) (c .before .before .before .before .before .advanced .result)) (dackPacket (c .before .before .before .before .dack-number .result)) _ _ _ refl
     (ap (λ (p : List ℕ). p ∷ []) (sym d)) (view-expectNext l (c .before .before .before .before .before .before .before .before .pre .0) (c .before .before .before .before .before .advanced .result) (c .before .before .before .before .before .before .before .before .pre .1 .0) e) (c .before .before .send-control .ensures))
