@@ -1,7 +1,7 @@
 -- A well-formed link, part by part. Assumes nothing.
 use Prim.Native.Nat.{ℕ, suc, _<_, _≤_}
 use native.Mathlib.Omega.{arith}
-use mathlib.Core.Path.{_≡_, refl}
+use mathlib.Core.Path.{_≡_, refl, sym, _∙_}
 use mathlib.Core.Bool.{Bool, true, false, _&&_, false≢true}
 use mathlib.Core.List.{List, [], _∷_}
 use lib.ListN.{length}
@@ -67,6 +67,14 @@ module _ (l : Link) where
   pub by-state : formed (l .queue) ≡ true → l .base < modulus → l .expected < modulus → knownEdition (l .edition) ≡ true → wellFormed l ≡ fits l (l .state)
   unfolding wellFormed
   by-state e h k d = rw (e, lt-ltb _ _ h, lt-ltb _ _ k, d)
+
+-- whatever else it has: with an unknown edition a value is no link
+pub unknown-edition : (l : Link) → knownEdition (l .edition) ≡ false → wellFormed l ≡ false
+unknown-edition l e = by-case (wellFormed l) refl
+  where
+    by-case : (b : Bool) → wellFormed l ≡ b → wellFormed l ≡ false
+    by-case true z = absurd (false≢true (sym e ∙ parts l z .edition))
+    by-case false z = z
 
 -- in an open state the expected number is free
 pub open-fits : (s : State) (n : ℕ) (r : Bool) (b e e′ : ℕ) → isOpen s ≡ true → stateFits s n r b e ≡ true → stateFits s n r b e′ ≡ true

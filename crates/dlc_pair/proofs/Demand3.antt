@@ -9,7 +9,7 @@
 -- table, and the histories here are of calls that meet the contracts.
 use Prim.Native.Nat.{ℕ, _+_, _*_, _<_, _≤_}
 use native.Mathlib.Omega.{arith}
-use mathlib.Core.Path.{_≡_, refl, sym, ap, subst, _∙_}
+use mathlib.Core.Path.{refl, sym, ap, subst, _∙_}
 use mathlib.Core.List.{List, _++_, map, IsPrefix}
 use lib.ListN.{length}
 use Rattle.dlc_packet.specs.Numbers.{Edition}

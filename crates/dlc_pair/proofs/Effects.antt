@@ -10,6 +10,7 @@ use mathlib.Core.List.{[], _∷_, _++_, append-nil}
 use lib.ListN.{length}
 use lib.Dec.{leb, ltb, eqb, leb·suc-zero}
 use borrow.Author.Tests.{lt-ltb, le-ltb, leb-true, leb-false, ltb-false}
+use Rattle.common.proofs.Bools.{and-false}
 use Rattle.dlc_packet.specs.Numbers.{Edition}
 use Rattle.dlc_packet.proofs.Numbers.{distance-dackNumber, dackNumber-below}
 use Rattle.dlc_table.specs.declared.State.the-variants.{Reset, Data}
@@ -167,11 +168,7 @@ module _ (edition : Edition) where
     -- a queue without payloads is acknowledged by no distance
     none-queued : (d : ℕ) → acknowledges d [] ≡ false
     none-queued zero = refl
-    none-queued (suc d) = rw (leb·suc-zero d) (right-false (leb 1 (suc d)))
-      where
-        right-false : (b : Bool) → (b && false) ≡ false
-        right-false true = refl
-        right-false false = refl
+    none-queued (suc d) = rw (leb·suc-zero d) (and-false (leb 1 (suc d)))
 
     dack-open : (m : Model) (q : Packets) (x : ℕ) → m .queue ≡ q
         → dackStep m (stateOf q) x ≡ cond (acknowledges (distanceOf m x) q) (effect done [] (without m (distanceOf m x))) (refuse m noEntry)

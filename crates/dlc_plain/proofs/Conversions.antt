@@ -2,11 +2,12 @@
 use Prim.Native.Nat.{ℕ, zero, suc, _<_, _≤_}
 use native.Mathlib.Omega.{arith}
 use mathlib.Core.Path.{_≡_, refl, sym, ap, ap₂, _∙_}
-use mathlib.Core.Bool.{true, _&&_}
+use mathlib.Core.Bool.{true, false, _&&_}
 use mathlib.Core.List.{List, flatten}
 use lib.Dec.{leb}
 use borrow.Author.Tests.{le-leb, lt-leb}
 use Rattle.common.specs.Buffer.{withFront}
+use Rattle.common.proofs.Bools.{and-false}
 use Rattle.dlc_table.specs.declared.State.{State}
 use Rattle.dlc_table.specs.declared.State.the-variants.{Idle, Reset, Data, Wait}
 use Rattle.dlc_table.specs.Answers.{badLink, done, refuses}
@@ -14,10 +15,12 @@ use Rattle.dlc_table.specs.Model.{Model}
 use Rattle.dlc_table.specs.Events.{Effect, refuse, startOf, timerOf, payloadOf, arrivalOf}
 use Rattle.dlc_table.proofs.Refusals.{answered, start-refused, timer-refused, payload-refused, arrival-refused}
 use Rattle.dlc_queue.specs.Queue.{slots}
+use Rattle.dlc_packet.specs.Numbers.{knownEdition}
 use Rattle.dlc.specs.declared.Link.{Link}
 use Rattle.dlc.specs.declared.Outcome.{Outcome}
 use Rattle.dlc.specs.View.{wellFormed, seen, view as linkView}
 use Rattle.dlc.specs.Calls.{answerOf, Meets}
+use Rattle.dlc.proofs.Parts.{unknown-edition}
 use Rattle.dlc_plain.specs.declared.PlainLink.{PlainLink}
 use Rattle.dlc_plain.specs.declared.PlainOutcome.{PlainOutcome}
 use Rattle.dlc_plain.specs.Plain.{numberOf, stateOf, stateWait, linkWith, plainWith, linkOf, plainOf, outcomeOf, view}
@@ -74,6 +77,10 @@ module _ (c : PlainLink) (h : c .state ≤ stateWait) where
         };
         reply = m .reply ∙ ap (λ (d : Effect). withFront (flatten (d .packets)) before) d;
       }
+
+-- ---- an edition that is neither: the value is ill formed, whatever its state
+pub unknown-edition-ill-formed : (c : PlainLink) → knownEdition (c .edition) ≡ false → view c .ok ≡ false
+unknown-edition-ill-formed c u = ap (_&&_ (leb (c .state) stateWait)) (unknown-edition (linkOf c) u) ∙ and-false (leb (c .state) stateWait)
 
 -- ---- another number: the value is ill formed
 module _ (c : PlainLink) (h : stateWait < c .state) where

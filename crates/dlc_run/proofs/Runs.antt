@@ -4,16 +4,18 @@
 --   run-by-the-table, final-by-the-table   all that is observed, and the link at the end as it is seen, are the table's
 --   runs-alike                             two links of the same view, two histories of the same events
 --   run-formed                             a well-formed link stays so, and 27 is never answered
+--   ill-formed-call                        an ill-formed one is answered 27 and comes back as it is
 --   run-edition                            a link's edition is never changed, by RESET neither
 use Prim.Native.Nat.{ℕ}
 use mathlib.Core.Path.{_≡_, refl, sym, ap, _∙_}
 use mathlib.Core.Bool.{Bool, true, false, cond}
 use mathlib.Core.List.{List, [], _∷_}
 use lib.ListN.{drop}
-use Rattle.dlc_table.specs.Answers.{badLink}
+use Rattle.dlc_table.specs.Answers.{badLink, refuses}
 use Rattle.dlc_table.specs.Model.{Model}
+use Rattle.dlc_table.specs.Events.{Effect}
 use Rattle.dlc_table.specs.Runs.{Event, start, timer, payload, arrival, effectOf, modelAfter}
-use Rattle.dlc_table.proofs.StaysFormed.{effect-keeps, never-badLink, run-keeps}
+use Rattle.dlc_table.proofs.StaysFormed.{effect-keeps, ill-formed-refused, never-badLink, run-keeps}
 use Rattle.dlc_table.proofs.StaysFormed as table
 use Rattle.dlc_queue.specs.Queue.{slots}
 use Rattle.dlc_answer.specs.declared.Answer.{Answer}
@@ -63,6 +65,13 @@ module _ {L : Type 0} (v : L → Model) where
           delivered = up i;
           after = link-by-the-table i;
         }
+
+  -- ---- an ill-formed link
+  pub ill-formed-call : (e : Event) (l : L) (g : Reply (Contract v e l)) → v l .ok ≡ false → (g .answer .code ≡ badLink) × (g .link ≡ l)
+  ill-formed-call e l g z =
+      let m = call-meets e l g .returns in
+      let d = ill-formed-refused slots e (v l) z in
+      (ap (λ (a : Answer). a .code) (m .answer) ∙ ap (λ (d : Effect). d .code) d, m .kept (ap (λ (d : Effect). refuses (d .code)) d))
 
   -- ---- a list of them
   pub run-by-the-table : (es : List Event) (l : L) (h : History v es l) → trace v es l h ≡ tableTrace slots es (v l)

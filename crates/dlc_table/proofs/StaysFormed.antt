@@ -9,8 +9,8 @@ use mathlib.Core.Bool.{true, false, false≢true}
 use mathlib.Core.List.{List, [], _∷_}
 use Rattle.dlc_table.specs.Answers.{done, badLink, badEdition, refuses}
 use Rattle.dlc_table.specs.Model.{Model, rebuilt}
-use Rattle.dlc_table.specs.Events.{Effect, refuse}
-use Rattle.dlc_table.specs.Runs.{Event, effectOf, modelAfter}
+use Rattle.dlc_table.specs.Events.{Effect, refuse, startOf, timerOf, payloadOf, arrivalOf}
+use Rattle.dlc_table.specs.Runs.{Event, start, timer, payload, arrival, effectOf, modelAfter}
 use Rattle.dlc_table.proofs.Entries.{Entries, event-entries}
 
 -- an effect whose link is m rebuilt
@@ -61,6 +61,14 @@ module _ (limit : ℕ) where
 
   pub never-badLink : (e : Event) (m : Model) → m .ok ≡ true → effectOf limit e m .code ≢ badLink
   never-badLink e m = event-entries (entries m limit) e .other
+
+  -- an ill-formed link is refused by 27 at every event, whatever else it has and whatever is lent
+  pub ill-formed-refused : (e : Event) (m : Model) → m .ok ≡ false → effectOf limit e m ≡ refuse m badLink
+  unfolding startOf timerOf payloadOf arrivalOf
+  ill-formed-refused (start before) m z = rw z
+  ill-formed-refused (timer before) m z = rw z
+  ill-formed-refused (payload p before) m z = rw z
+  ill-formed-refused (arrival packet before) m z = rw z
 
   -- 28 is the maker's alone
   pub never-badEdition : (e : Event) (m : Model) → effectOf limit e m .code ≢ badEdition

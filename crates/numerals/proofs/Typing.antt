@@ -1,6 +1,5 @@
 -- Laws of numbers as they are typed: a loop that stands at octet i, with the number n before it. Assumes nothing.
 use Prim.Native.Nat.{ℕ, _+_, _*_, _-_, _^_, _≤_, _<_}
-use mathlib.Core.Bool.{Bool, true, false, _&&_}
 use mathlib.Core.List.{List, [], _∷_}
 use mathlib.Core.Path.{_≡_, refl, sym, ap, _∙_}
 use native.Mathlib.Numerals.{add-one}
@@ -8,6 +7,7 @@ use native.Mathlib.Omega.{arith}
 use borrow.Author.Tests.{lt-ltb, le-ltb, le-leb, lt-leb}
 use lib.ListN.{length, getD, drop, drop-of-length-le}
 use lib.Seq.{drop-cons}
+use Rattle.common.proofs.Bools.{and-false}
 use Rattle.numerals.specs.Number.{allDigits, valueFrom, typedFrom, typedOf}
 use Rattle.numerals.specs.declared.Typed.{Typed}
 
@@ -16,10 +16,6 @@ valueFrom-grows : (xs : List ℕ) (n : ℕ) → n ≤ valueFrom n xs
 unfolding valueFrom
 valueFrom-grows [] n = omega arith
 valueFrom-grows (x ∷ xs) n = omega (arith, valueFrom-grows xs (n * 10 + (x - 48)))
-
-and-false : (b : Bool) → (b && false) ≡ false
-and-false true = refl
-and-false false = refl
 
 module _ (n x : ℕ) (xs : List ℕ) where
   low : x < 48 → typedFrom n (x ∷ xs) ≡ Typed.None
