@@ -1,4 +1,9 @@
-//! One end of a DLC link, by the step table of the scope paper.
+//! One end of a DLC link, by the step table of the scope paper; DACK is read as its edition says (2026-08).
+#[cfg(test)]
+mod editions;
+#[cfg(test)]
+mod search;
+
 use std::ops::Range;
 
 /// "The queue takes 15" (2026-06); the scope paper has 7.
@@ -7,12 +12,15 @@ pub const PAYLOAD: usize = 256;
 /// The reply store has at least this many octets: a whole queue of the longest DATA.
 pub const REPLY: usize = QUEUE * (PAYLOAD + 1);
 
+/// "Keep both: edition 1 is 01's; under edition 2" DACK acknowledges "through x".
+pub const EDITIONS: [u8; 2] = [1, 2];
+
 pub const RESET: u8 = 0x10;
 pub const RESET_ACK: u8 = 0x20;
 pub const DATA: u8 = 0x40;
 pub const DACK: u8 = 0x50;
 
-#[derive(Debug, Clone, Copy, PartialEq, Eq)]
+#[derive(Debug, Clone, Copy, PartialEq, Eq, Hash)]
 pub enum Mode {
     Idle,
     Reset,
@@ -20,7 +28,7 @@ pub enum Mode {
     Wait,
 }
 
-#[derive(Debug, Clone, PartialEq, Eq)]
+#[derive(Debug, Clone, PartialEq, Eq, Hash)]
 pub struct Link {
     pub mode: Mode,
     /// payloads, oldest first
@@ -28,6 +36,8 @@ pub struct Link {
     /// the oldest payload's number, or the next to be given
     pub oldest: u8,
     pub awaited: u8,
+    /// one of `EDITIONS`; any other number answers 27
+    pub edition: u8,
 }
 
 #[derive(Debug, Clone, PartialEq, Eq, Default)]
@@ -39,6 +49,16 @@ pub struct Answer {
     pub upper_reset: bool,
     /// the payload handed up, as a part of the lent packet
     pub up: Option<Range<usize>>,
+}
+
+impl Answer {
+    /// A number alone: every other number in the answer is 0.
+    fn of(number: u8) -> Self {
+        Answer {
+            number,
+            ..Answer::default()
+        }
+    }
 }
 
 /// What an event leads to: the link afterwards, the number, and what goes out and up.
@@ -63,12 +83,22 @@ impl Step {
 }
 
 impl Link {
-    pub fn fresh() -> Self {
+    /// "28 unknown edition, judged when the link is made, edition 1's fresh link given beside it."
+    pub fn make(edition: u8) -> (Self, Answer) {
+        match EDITIONS.contains(&edition) {
+            true => (Self::fresh(edition), Answer::of(0)),
+            false => (Self::fresh(1), Answer::of(28)),
+        }
+    }
+
+    /// "In DLIDLE with empty queue and numbers 0", and with this edition, whatever number that is.
+    pub fn fresh(edition: u8) -> Self {
         Link {
             mode: Mode::Idle,
             queue: Vec::new(),
             oldest: 0,
             awaited: 0,
+            edition,
         }
     }
 
@@ -80,6 +110,7 @@ impl Link {
             && self.awaited <= 15
             && (self.mode == Mode::Wait) != self.queue.is_empty()
             && (opened || self.oldest == 0 && self.awaited == 0)
+            && EDITIONS.contains(&self.edition)
     }
 
     pub fn start(self, reply: &mut [u8]) -> (Self, Answer) {
@@ -126,7 +157,7 @@ impl Link {
             match kind {
                 DATA if payload.len() <= PAYLOAD => link.judge(x, 1..packet.len()),
                 DACK if payload.is_empty() => link.remove(x),
-                RESET if payload.is_empty() && x == 0 => Ok(Self::clear()),
+                RESET if payload.is_empty() && x == 0 => Ok(link.clear()),
                 RESET_ACK if payload.is_empty() && x == 0 => match link.mode {
                     Mode::Reset => Ok(Step::to(link.in_mode(Mode::Data), vec![])),
                     _ => Err(24),
@@ -146,8 +177,9 @@ impl Link {
         Link { mode, ..self }
     }
 
-    fn clear() -> Step {
-        let link = Self::fresh().in_mode(Mode::Data);
+    /// The edition "survives RESET".
+    fn clear(self) -> Step {
+        let link = Self::fresh(self.edition).in_mode(Mode::Data);
         Step {
             upper_reset: true,
             ..Step::to(link, vec![vec![RESET_ACK]])
@@ -166,7 +198,7 @@ impl Link {
         if up.is_some() {
             self.awaited = (self.awaited + 1) % 16;
         }
-        let answer = vec![DACK | self.awaited];
+        let answer = vec![DACK | self.acknowledgement()];
         Ok(Step {
             number,
             up,
@@ -174,14 +206,32 @@ impl Link {
         })
     }
 
-    /// DACK x, which acknowledges through x-1.
+    /// The number that a DACK carries: of edition 1 the awaited one, of edition 2 "the awaited number less 1 (15 at the start)".
+    fn acknowledgement(&self) -> u8 {
+        match self.edition {
+            2 => (self.awaited + 15) % 16,
+            _ => self.awaited,
+        }
+    }
+
+    /// How far DACK x is: of edition 1 "x minus the oldest number, modulo 16", of edition 2 "x plus 1 minus the oldest number".
+    fn distance(&self, x: u8) -> u8 {
+        let next = match self.edition {
+            2 => x + 1,
+            _ => x,
+        };
+        (next + 16 - self.oldest) % 16
+    }
+
+    /// DACK x, which acknowledges through x-1, or through x.
     fn remove(mut self, x: u8) -> Result<Step, u8> {
-        let distance = usize::from((x + 16 - self.oldest) % 16);
-        if self.mode != Mode::Wait || !(1..=self.queue.len()).contains(&distance) {
+        let distance = self.distance(x);
+        let removed = usize::from(distance);
+        if self.mode != Mode::Wait || !(1..=self.queue.len()).contains(&removed) {
             return Err(24);
         }
-        self.queue.drain(..distance);
-        self.oldest = x;
+        self.queue.drain(..removed);
+        self.oldest = (self.oldest + distance) % 16;
         let mode = match self.queue.is_empty() {
             true => Mode::Data,
             false => Mode::Wait,
@@ -203,13 +253,7 @@ impl Link {
             step(self.clone())
         };
         match judged {
-            Err(number) => (
-                self,
-                Answer {
-                    number,
-                    ..Answer::default()
-                },
-            ),
+            Err(number) => (self, Answer::of(number)),
             Ok(step) => {
                 let octets = step.packets.concat();
                 reply[..octets.len()].copy_from_slice(&octets);

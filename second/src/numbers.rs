@@ -1,9 +1,11 @@
 //! The numbers of include/hasfandur.h against this program's: for each number given back an input that the papers give it for,
 //! for each size the constant here, for each kind of packet one that this program sends. No constant of the header may be left out.
+mod link_numbers;
+
 use crate::afp::{self, check_sequence};
 use crate::check::Check;
 use crate::kiss;
-use crate::link::{self, Link, Mode};
+use crate::link;
 use crate::qaft;
 use crate::reader::{self, State};
 use crate::sheet;
@@ -95,71 +97,6 @@ fn kiss_numbers() -> Vec<(&'static str, usize)> {
     ]
     .map(|(name, number)| (name, number.into()))
     .to_vec()
-}
-
-/// An open link with so many payloads queued.
-fn open(queued: usize) -> Link {
-    Link {
-        mode: if queued == 0 { Mode::Data } else { Mode::Wait },
-        queue: vec![vec![]; queued],
-        ..Link::fresh()
-    }
-}
-
-fn link_numbers() -> Vec<(&'static str, usize)> {
-    let payload = |link: Link, length| {
-        link.payload(&vec![0; length], &mut [0; link::REPLY])
-            .1
-            .number
-    };
-    let packet = |packet: &[u8]| open(0).packet(packet, &mut [0; link::REPLY]).1.number;
-    let ill_formed = Link {
-        mode: Mode::Wait,
-        ..Link::fresh()
-    };
-    [
-        ("DLC_NOT_OPEN", payload(Link::fresh(), 0)),
-        ("DLC_PAYLOAD_TOO_LONG", payload(open(0), link::PAYLOAD + 1)),
-        ("DLC_QUEUE_FULL", payload(open(link::QUEUE), 0)),
-        ("DLC_BAD_PACKET", packet(&[])),
-        ("DLC_NO_ENTRY", packet(&[0x20])),
-        ("DLC_OTHER_NUMBER", packet(&[0x41])),
-        (
-            "DLC_REPLY_TOO_SMALL",
-            open(0).start(&mut [0; link::REPLY - 1]).1.number,
-        ),
-        ("DLC_BAD_LINK", payload(ill_formed, 0)),
-    ]
-    .map(|(name, number)| (name, number.into()))
-    .to_vec()
-}
-
-/// The first octets of what this program sends, and its modes in the paper's order.
-fn packets_and_states() -> Vec<(&'static str, usize)> {
-    let first = |event: &dyn Fn(&mut [u8])| {
-        let mut reply = [0; link::REPLY];
-        event(&mut reply);
-        usize::from(reply[0])
-    };
-    let opening = Link {
-        mode: Mode::Reset,
-        ..Link::fresh()
-    };
-    let sends =
-        |link: &Link, packet: &[u8]| first(&|reply| drop(link.clone().packet(packet, reply)));
-    vec![
-        (
-            "DLC_RESET",
-            first(&|reply| drop(opening.clone().timer(reply))),
-        ),
-        ("DLC_RESET_ACK", sends(&open(0), &[0x10])),
-        ("DLC_DATA", first(&|reply| drop(open(1).timer(reply)))),
-        ("DLC_DACK", sends(&open(0), &[0x41])),
-        ("DLC_STATE_IDLE", Mode::Idle as usize),
-        ("DLC_STATE_RESET", Mode::Reset as usize),
-        ("DLC_STATE_DATA", Mode::Data as usize),
-        ("DLC_STATE_WAIT", Mode::Wait as usize),
-    ]
 }
 
 /// The number for a frame of these octets and their check octets.
@@ -278,8 +215,9 @@ fn numbers_of_the_header() {
     let mut ours = qaft_numbers();
     ours.extend(check_kinds());
     ours.extend(kiss_numbers());
-    ours.extend(link_numbers());
-    ours.extend(packets_and_states());
+    ours.extend(link_numbers::numbers());
+    ours.extend(link_numbers::packets_and_states());
+    ours.extend(link_numbers::editions());
     ours.extend(afp_numbers());
     ours.extend(sizes());
     ours.extend(sheet_numbers());

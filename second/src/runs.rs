@@ -1,6 +1,6 @@
 //! Runs of the chunk reader and the link against what the paper says of whole lines and of lists of events.
 use crate::check::Check;
-use crate::link::{Link, Mode, PAYLOAD, QUEUE, REPLY};
+use crate::link::{Link, Mode, EDITIONS, PAYLOAD, QUEUE, REPLY};
 use crate::qaft::{body, read_line, Report, FLAG, FLOW_CONTROL};
 use crate::reader::{read, State};
 use crate::rng::Rng;
@@ -115,10 +115,10 @@ fn reader_refusals() {
     }
 }
 
-fn opened() -> Link {
+fn opened(edition: u8) -> Link {
     Link {
         mode: Mode::Data,
-        ..Link::fresh()
+        ..Link::fresh(edition)
     }
 }
 
@@ -130,6 +130,7 @@ fn dack_after_15() {
         queue: vec![vec![1], vec![2]],
         oldest: 14,
         awaited: 3,
+        edition: 1,
     };
     let (after, answer) = link.clone().packet(&[0x51], &mut reply);
     assert_eq!((after, answer.number), (link.clone(), 24));
@@ -144,7 +145,7 @@ fn dack_after_15() {
 #[test]
 fn link_limits() {
     let mut reply = [0; REPLY];
-    let mut link = opened();
+    let mut link = opened(1);
     assert_eq!(
         link.clone().payload(&[0; PAYLOAD + 1], &mut reply).1.number,
         21
@@ -158,7 +159,7 @@ fn link_limits() {
     assert_eq!(answer.sent, vec![PAYLOAD + 1; QUEUE]);
     assert_eq!(link.clone().timer(&mut reply[1..]).1.number, 26);
     assert_eq!(link.packet(&[0x11], &mut reply).1.number, 23);
-    let idle = Link::fresh();
+    let idle = Link::fresh(1);
     assert_eq!(idle.clone().packet(&[], &mut reply).1.number, 23);
     assert_eq!(idle.clone().payload(&[], &mut reply).1.number, 20);
     let wrong = Link { oldest: 1, ..idle };
@@ -169,7 +170,7 @@ fn link_limits() {
 #[test]
 fn sixteenth_payload() {
     let mut reply = [0; 3855];
-    let mut link = opened();
+    let mut link = opened(1);
     for i in 1..=16 {
         let (after, answer) = link.payload(&[i], &mut reply);
         assert_eq!(answer.number, if i <= 15 { 0 } else { 22 });
@@ -188,11 +189,16 @@ fn initial_part(up: &[Vec<u8>], accepted: &[Vec<u8>]) {
     assert!(up.len() > 1_000, "{}", up.len());
 }
 
-/// Two ends whose lines lose packets: what is handed up is always an initial part of what was accepted at the other end.
+/// Two ends of one edition whose lines lose packets: what is handed up is always an initial part of what was accepted at the
+/// other end.
 #[test]
 fn nothing_twice_nothing_out_of_order() {
+    EDITIONS.into_iter().for_each(in_order);
+}
+
+fn in_order(edition: u8) {
     let rng = Rng::new(2);
-    let mut ends = [opened(), opened()];
+    let mut ends = [opened(edition), opened(edition)];
     // by end: packets on their way to it, payloads accepted at it, payloads handed up at it
     let mut lines: [Vec<Vec<u8>>; 2] = Default::default();
     let mut accepted: [Vec<Vec<u8>>; 2] = Default::default();

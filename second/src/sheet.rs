@@ -82,10 +82,10 @@ impl Counts {
     }
 }
 
-/// Kind and number of the packet that a frame's data is, or nothing where a link would answer 23.
+/// Kind and number of the packet that a frame's data is, or nothing where a link would answer 23, which no edition bears on.
 fn packet(data: &[u8]) -> Option<(u8, u8)> {
     let control = data.first()?;
-    let (_, answer) = Link::fresh().packet(data, &mut [0; REPLY]);
+    let (_, answer) = Link::fresh(1).packet(data, &mut [0; REPLY]);
     (answer.number != 23).then_some((control & 0xF0, control & 0x0F))
 }
 

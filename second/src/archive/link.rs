@@ -23,6 +23,7 @@ pub struct Link {
     pub queue: Queue,
     pub base: u8,
     pub expected: u8,
+    pub edition: u8,
 }
 
 #[repr(C)]
@@ -43,7 +44,7 @@ pub struct Outcome {
 
 // the archive is named in the file above
 extern "C" {
-    fn hasfandur_dlc_fresh() -> Link;
+    fn hasfandur_dlc_fresh(edition: u8) -> Outcome;
     fn hasfandur_dlc_start(link: Link, reply: *mut u8, reply_length: usize) -> Outcome;
     fn hasfandur_dlc_timer(link: Link, reply: *mut u8, reply_length: usize) -> Outcome;
     fn hasfandur_dlc_payload(
@@ -62,8 +63,8 @@ extern "C" {
     ) -> Outcome;
 }
 
-pub fn fresh() -> Link {
-    unsafe { hasfandur_dlc_fresh() }
+pub fn fresh(edition: u8) -> Outcome {
+    unsafe { hasfandur_dlc_fresh(edition) }
 }
 
 impl Link {

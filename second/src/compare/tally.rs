@@ -19,6 +19,7 @@ pub struct Tally {
     differences: u64,
     numbers: BTreeMap<u8, u64>,
     counts: BTreeMap<&'static str, u64>,
+    notes: BTreeMap<&'static str, u64>,
     claims: BTreeMap<&'static str, Claim>,
     start: Instant,
 }
@@ -39,6 +40,7 @@ impl Tally {
             differences: 0,
             numbers: BTreeMap::new(),
             counts: BTreeMap::new(),
+            notes: BTreeMap::new(),
             claims: BTreeMap::new(),
             start: Instant::now(),
         }
@@ -103,6 +105,11 @@ impl Tally {
         *self.counts.entry(name).or_default() += times;
     }
 
+    /// Counts something that need not come up.
+    pub fn note(&mut self, name: &'static str, times: u64) {
+        *self.notes.entry(name).or_default() += times;
+    }
+
     /// Counts a check of a claim.
     pub fn claim(&mut self, name: &'static str, holds: bool) {
         let claim = self.claims.entry(name).or_default();
@@ -112,12 +119,9 @@ impl Tally {
 
     /// Prints counts and claims; true where every claim held, and everything counted came up.
     fn finish_claims(&self, count: u64) -> bool {
-        if !self.counts.is_empty() {
-            let each: Vec<String> = self
-                .counts
-                .iter()
-                .map(|(name, n)| format!("{name}: {n}"))
-                .collect();
+        let both = self.counts.iter().chain(&self.notes);
+        let each: Vec<String> = both.map(|(name, n)| format!("{name}: {n}")).collect();
+        if !each.is_empty() {
             println!("  {}", each.join(", "));
         }
         for (name, Claim { checked, failed }) in &self.claims {

@@ -45,6 +45,7 @@ pub fn view(link: &archive::Link) -> Option<link::Link> {
         queue,
         oldest: link.base,
         awaited: link.expected,
+        edition: link.edition,
     })
 }
 
@@ -83,11 +84,8 @@ fn by_archive(link: archive::Link, event: &Event, reply: &mut [u8]) -> archive::
     }
 }
 
-/// The second program's answer in the header's fields. What is delivered is all of the packet behind its first octet.
-fn fields(answer: &link::Answer, event: &Event) -> archive::Answer {
-    if let (Some(part), Event::Arrival(packet)) = (&answer.up, event) {
-        assert_eq!(*part, 1..packet.len());
-    }
+/// The second program's answer in the header's fields.
+fn fields(answer: &link::Answer) -> archive::Answer {
     let mut lengths = [0; QUEUE];
     lengths[..answer.sent.len()].copy_from_slice(&answer.sent);
     archive::Answer {
@@ -125,6 +123,19 @@ fn packets(answer: &archive::Answer, mut reply: &[u8]) -> Vec<Vec<u8>> {
     packets
 }
 
+/// Has both make a link, and compares every field of the answer and the link; the archive's and the second program's.
+pub fn compare_fresh(edition: u8, tally: &mut Tally) -> (archive::Outcome, link::Link) {
+    let (link, answer) = link::Link::make(edition);
+    let outcome = archive::fresh(edition);
+    tally.number(answer.number);
+    tally.input(
+        &(fields(&answer), Some(link.clone())),
+        &(outcome.answer.clone(), view(&outcome.link)),
+        || format!("a fresh link of edition {edition}"),
+    );
+    (outcome, link)
+}
+
 /// Calls both and compares: every field of the answer, the later link, the whole reply buffer. A state over 3 is 27.
 pub fn compare(place: Place, event: &Event, tally: &mut Tally) -> Given {
     let Place { room, seed, .. } = place;
@@ -132,7 +143,13 @@ pub fn compare(place: Place, event: &Event, tally: &mut Tally) -> Given {
     let outcome = by_archive(place.archive.clone(), event, theirs.room());
     let packets = packets(&outcome.answer, theirs.room());
     let (second, answer) = match by_second(place.second, event, ours.room()) {
-        Some((link, answer)) => (Some(link), fields(&answer, event)),
+        Some((link, answer)) => {
+            // what is delivered is all of the packet behind its first octet
+            if let (Some(part), Event::Arrival(packet)) = (&answer.up, event) {
+                assert_eq!(*part, 1..packet.len());
+            }
+            (Some(link), fields(&answer))
+        }
         None => (
             None,
             archive::Answer {

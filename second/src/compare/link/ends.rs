@@ -1,11 +1,11 @@
-//! Two ends and the lines between them, side by side in both programs. In most runs lines only lose packets, and then the
-//! paper's demand 3 is checked of the archive: what is delivered is an initial part of what was accepted at the other end
-//! since both were opened; where timers wait for a drained line, DATA sent are at most those accepted and a whole queue for
-//! each lost packet. And since payloads are sent at once: as long as nothing is lost, all is delivered whenever the line is
-//! drained. In the other runs packets are also invented, changed and repeated and ends replaced; they are compared
-//! alone. A line takes any number of packets, and none leaves it uncounted.
+//! Two ends and the lines between them, side by side in both programs. In most runs both ends are of one edition and lines only
+//! lose packets, and then the paper's demand 3 is checked of the archive: what is delivered is an initial part of what was
+//! accepted at the other end since both were opened; where timers wait for a drained line, DATA sent are at most those accepted
+//! and a whole queue for each lost packet. And since payloads are sent at once: as long as nothing is lost, all is delivered
+//! whenever the line is drained. In the other runs packets are also invented, changed and repeated and ends replaced, or the
+//! editions differ; they are compared alone. A line takes any number of packets, and none leaves it uncounted.
 use super::super::tally::Tally;
-use super::call::{compare, refused, view, Event, Given, Place};
+use super::call::{compare, compare_fresh, refused, Event, Given, Place};
 use crate::archive::link as archive;
 use second::link::{self, QUEUE, REPLY};
 use second::rng::Rng;
@@ -17,7 +17,9 @@ const COUNTED: &str = "each DATA sent has arrived, was lost or is on its way";
 const ALL: &str = "all accepted is delivered once nothing is lost";
 const LOSSLESS: &str = "all accepted is delivered on a drained line that has lost nothing";
 const FORMED: &str = "27 answers no link of a run";
+const KEPT: &str = "no call changes an edition";
 const RESTARTS: &str = "number restarts";
+pub const RESETS: &str = "RESETs that emptied a queue";
 
 pub struct End {
     pub archive: archive::Link,
@@ -26,8 +28,8 @@ pub struct End {
     pub line: VecDeque<Vec<u8>>,
     /// payloads accepted at this end since both were opened
     pub accepted: Vec<Vec<u8>>,
-    /// how many of the other end's were delivered at this one since then
-    pub delivered: usize,
+    /// payloads of the other end that were delivered at this one since then
+    pub delivered: Vec<Vec<u8>>,
     /// DATA sent by this end since then, repeats too
     pub sent: usize,
     /// DATA of this end that has arrived at the other since then, repeats too
@@ -45,7 +47,8 @@ impl End {
     /// Forgets what has been counted since the ends were opened.
     fn recount(&mut self) {
         self.accepted.clear();
-        (self.delivered, self.sent, self.arrived) = (0, 0, 0);
+        self.delivered.clear();
+        (self.sent, self.arrived) = (0, 0);
         (self.lost_data, self.lost_dacks) = (0, 0);
     }
 }
@@ -53,24 +56,27 @@ impl End {
 pub struct Ends<'a> {
     pub rng: &'a Rng,
     pub tally: &'a mut Tally,
+    pub editions: [u8; 2],
     pub ends: [End; 2],
-    /// whether the lines only lose packets, so that the claims are due
+    /// whether the lines only lose packets and the editions are equal, so that the claims are due
     pub claimed: bool,
     /// whether each end's timer waits until none of its DATA and no DACK to it is on the line
     pub waits: bool,
     /// a packet is lost once in so many steps, or never by itself
     pub loss: Option<usize>,
+    /// how many events in 64 are payloads
+    pub payloads: usize,
     pub calls: u64,
 }
 
-pub fn fresh_end() -> End {
-    let archive = archive::fresh();
+fn fresh_end(edition: u8, tally: &mut Tally) -> End {
+    let (outcome, link) = compare_fresh(edition, tally);
     End {
-        second: view(&archive),
-        archive,
+        archive: outcome.link,
+        second: Some(link),
         line: VecDeque::new(),
         accepted: Vec::new(),
-        delivered: 0,
+        delivered: Vec::new(),
         sent: 0,
         arrived: 0,
         lost_data: 0,
@@ -86,7 +92,32 @@ pub fn is_dack(packet: &[u8]) -> bool {
     packet.first().is_some_and(|x| x & 0xF0 == 0x50)
 }
 
+/// How many events in 64 are payloads, where nothing else is asked for.
+pub const PAYLOADS: usize = 11;
+
+impl<'a> Ends<'a> {
+    /// Two fresh ends of these editions; nothing is lost by itself, and timers wait.
+    pub fn fresh(rng: &'a Rng, tally: &'a mut Tally, editions: [u8; 2]) -> Self {
+        Ends {
+            editions,
+            ends: editions.map(|edition| fresh_end(edition, tally)),
+            claimed: editions[0] == editions[1],
+            waits: true,
+            loss: None,
+            payloads: PAYLOADS,
+            calls: 0,
+            rng,
+            tally,
+        }
+    }
+}
+
 impl Ends<'_> {
+    /// An end is replaced by a fresh one of its edition, to which nothing is on its way.
+    pub fn replace(&mut self, end: usize) {
+        self.ends[end] = fresh_end(self.editions[end], self.tally);
+    }
+
     /// One call at an end, whose packets join the other end's line; its number.
     pub fn call(&mut self, end: usize, event: Event, room: usize) -> u8 {
         let place = Place {
@@ -100,6 +131,8 @@ impl Ends<'_> {
         self.calls += 1;
         self.record(end, &event, &given);
         self.tally.claim(FORMED, number != 27);
+        let kept = given.archive.link.edition == self.editions[end];
+        self.tally.claim(KEPT, kept);
         self.check_bound(end, &given.packets);
         self.ends[1 - end].line.extend(given.packets);
         self.ends[end].archive = given.archive.link;
@@ -114,6 +147,8 @@ impl Ends<'_> {
             let restarts = u64::from(outcome.link.base < before.base)
                 + u64::from(outcome.link.expected < before.expected);
             self.tally.count(RESTARTS, restarts);
+        } else if before.queue.count > 0 {
+            self.tally.count(RESETS, 1);
         }
         match event {
             Event::Payload(payload) if !refused(outcome.answer.number) => {
@@ -121,13 +156,13 @@ impl Ends<'_> {
             }
             Event::Arrival(packet) if outcome.answer.delivered != 0 => {
                 self.tally.count("delivered", 1);
-                let index = self.ends[end].delivered;
-                let accepted = self.ends[1 - end].accepted.get(index);
-                let holds = accepted.map(Vec::as_slice) == packet.get(1..);
+                let payload = packet.get(1..).unwrap_or_default().to_vec();
+                let index = self.ends[end].delivered.len();
+                let holds = self.ends[1 - end].accepted.get(index) == Some(&payload);
                 if self.claimed {
                     self.tally.claim(INITIAL_PART, holds);
                 }
-                self.ends[end].delivered += 1;
+                self.ends[end].delivered.push(payload);
             }
             _ => {}
         }
@@ -187,7 +222,7 @@ impl Ends<'_> {
     pub fn check_lossless(&mut self, end: usize) {
         let (this, other) = (&self.ends[end], &self.ends[1 - end]);
         if this.lost() == 0 && self.drained(end) {
-            let all = other.delivered == this.accepted.len();
+            let all = other.delivered.len() == this.accepted.len();
             self.tally
                 .claim(LOSSLESS, all && this.archive.queue.count == 0);
         }
@@ -214,7 +249,7 @@ impl Ends<'_> {
     pub fn open(&mut self, end: usize) {
         self.ends[0].line.clear();
         self.ends[1].line.clear();
-        self.ends[end] = fresh_end();
+        self.replace(end);
         self.call(end, Event::Start, REPLY);
         // more often than losses can ask for
         for _ in 0..1_000 {
@@ -249,7 +284,7 @@ impl Ends<'_> {
             self.drain();
         }
         for end in 0..2 {
-            let all = self.ends[1 - end].delivered == self.ends[end].accepted.len();
+            let all = self.ends[1 - end].delivered.len() == self.ends[end].accepted.len();
             self.tally
                 .claim(ALL, all && self.ends[end].archive.state == 2);
             self.check_counted(end);

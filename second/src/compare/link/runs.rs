@@ -1,8 +1,8 @@
-//! Runs of random events at two ends, from one opening to the next. Lines lose packets; in one run in four they are disturbed
-//! besides.
+//! Runs of random events at two ends of one edition, from one opening to the next. Lines lose packets; in one run in four they
+//! are disturbed besides.
 use super::super::tally::Tally;
 use super::call::{compare, Event, Place};
-use super::ends::{fresh_end, Ends};
+use super::ends::{Ends, PAYLOADS, RESETS};
 use super::make;
 use second::link::PAYLOAD;
 use second::rng::Rng;
@@ -14,11 +14,12 @@ pub const NUMBERS: [u8; 6] = [0, 21, 22, 24, 25, 26];
 const STRETCH: u64 = 400;
 
 impl Ends<'_> {
-    /// A payload that tells its place, so that two of them are seldom the same.
-    fn payload(&self) -> Event {
+    /// A payload that tells its place, so that two of them are seldom the same, and with mixed editions never.
+    pub fn payload(&self) -> Event {
         let mut payload = self.calls.to_le_bytes().to_vec();
+        let mixed = self.editions[0] != self.editions[1];
         match self.rng.below(16) {
-            0 => payload.truncate(self.rng.below(2)),
+            0 if !mixed => payload.truncate(self.rng.below(2)),
             1 => payload.resize(self.rng.between(PAYLOAD - 1, PAYLOAD + 1), 0x5A),
             _ => {}
         }
@@ -26,7 +27,7 @@ impl Ends<'_> {
     }
 
     /// One event at random. Timers are few while packets are on their way, so that lines don't fill up with repeats.
-    fn step(&mut self) {
+    pub fn step(&mut self) {
         let (end, room) = (self.rng.below(2), make::room(self.rng));
         self.lose(end);
         let quiet = self.ends.iter().all(|end| end.line.is_empty());
@@ -35,8 +36,8 @@ impl Ends<'_> {
             _ if idle && self.rng.once_in(4) => Event::Start,
             0 => Event::Start,
             1 if !self.waits || self.drained(end) => Event::Timer,
-            2..=12 => self.payload(),
-            13 => return self.probe(end),
+            2 => return self.probe(end),
+            n if (3..3 + self.payloads).contains(&n) => self.payload(),
             _ if quiet => Event::Timer,
             _ => {
                 self.arrival(end, room);
@@ -61,10 +62,10 @@ impl Ends<'_> {
 
     /// What no line does that only loses: a packet invented, changed, repeated or overtaken; an end replaced.
     fn disturb(&mut self) {
-        let (end, rng) = (self.rng.below(2), self.rng);
-        let end = &mut self.ends[end];
+        let (place, rng) = (self.rng.below(2), self.rng);
+        let end = &mut self.ends[place];
         match (rng.below(400), end.line.front().cloned()) {
-            (0 | 1, _) => *end = fresh_end(),
+            (0 | 1, _) => self.replace(place),
             (2..=9, _) => {
                 if let Event::Arrival(packet) = make::event(rng, &end.archive) {
                     end.line.push_front(packet);
@@ -82,15 +83,13 @@ impl Ends<'_> {
 }
 
 /// One run from an opening to the next.
-fn run(rng: &Rng, claimed: bool, tally: &mut Tally) -> u64 {
+fn run(rng: &Rng, edition: u8, claimed: bool, tally: &mut Tally) -> u64 {
     let mut ends = Ends {
-        rng,
-        tally,
-        ends: [fresh_end(), fresh_end()],
         claimed,
         waits: rng.once_in(2),
         loss: Some(rng.pick(&[4, 20, 100, 1000])),
-        calls: 0,
+        payloads: rng.pick(&[PAYLOADS, PAYLOADS, 4 * PAYLOADS]),
+        ..Ends::fresh(rng, tally, [edition; 2])
     };
     ends.open(rng.below(2));
     for _ in 0..rng.pick(&[1, 2, 4]) {
@@ -112,11 +111,21 @@ fn run(rng: &Rng, claimed: bool, tally: &mut Tally) -> u64 {
     ends.calls
 }
 
-/// Runs of five times `count` calls in all, or a few more: calls are quick, and what goes wrong may take many. One run in four
+/// Runs of four times `count` calls in all, or a few more: calls are quick, and what goes wrong may take many. One run in four
 /// is disturbed.
-pub fn two_ends(rng: &Rng, count: u64, tally: &mut Tally) {
+fn two_ends(rng: &Rng, edition: u8, count: u64, tally: &mut Tally) {
+    tally.count(RESETS, 0);
     let mut calls = 0;
-    while calls < 5 * count {
-        calls += run(rng, !rng.once_in(4), tally);
+    while calls < 4 * count {
+        calls += run(rng, edition, !rng.once_in(4), tally);
     }
+    tally.count("calls", calls);
+}
+
+pub fn edition_1(rng: &Rng, count: u64, tally: &mut Tally) {
+    two_ends(rng, 1, count, tally);
+}
+
+pub fn edition_2(rng: &Rng, count: u64, tally: &mut Tally) {
+    two_ends(rng, 2, count, tally);
 }

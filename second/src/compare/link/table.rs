@@ -3,10 +3,10 @@
 mod rows;
 
 use super::super::tally::Tally;
-use super::call::{compare, view, Event, Given, Place};
-use super::worked::worked_run;
+use super::call::{compare, compare_fresh, view, Event, Given, Place};
+use super::worked::worked_runs;
 use crate::archive::link::Link;
-use rows::{events, links, odd_links, packet, STATES};
+use rows::{events, links, odd_links, packet, second_links, ASKED, STATES};
 use second::link::{PAYLOAD, REPLY};
 use second::rng::Rng;
 
@@ -14,7 +14,8 @@ const HEADING: &str = "\
 The DLC link's step table as the archive of proved code answers it: written by `second/run --bless`, compared by every
 second/run. Events stand in the order of the step table's rows, below each the links in the order of its columns. A line says
 the number answered; the link afterwards, where the event is no refusal; what goes up; the packets sent. A refusal leaves the
-link as it was, and the reply buffer. The oldest number is that of the oldest payload, or the next to be given.
+link as it was, and the reply buffer. The oldest number is that of the oldest payload, or the next to be given. Links are of
+edition 1 where nothing else is said.
 ";
 
 pub const NAME: &str = "dlc.txt";
@@ -26,11 +27,12 @@ fn octets(octets: &[u8]) -> String {
     format!("{}{dots}", shown.join(" "))
 }
 
-/// State, queue and numbers of a link.
+/// State, queue, numbers and edition of a link.
 fn link_text(link: &Link) -> String {
     let state = STATES.get(usize::from(link.state)).unwrap_or(&"no state");
     let (queued, oldest, awaited) = (link.queue.count, link.base, link.expected);
-    format!("{state}, queued {queued}, oldest {oldest}, awaited {awaited}")
+    let edition = link.edition;
+    format!("{state}, queued {queued}, oldest {oldest}, awaited {awaited}, edition {edition}")
 }
 
 /// What the archive gave back: a number alone where the link is as it was and nothing goes up or out.
@@ -80,34 +82,78 @@ impl Table<'_> {
         self.call(link, event, room).archive.answer.number
     }
 
-    /// Each event, and below it what it leads to at each link.
-    fn steps(&mut self) {
-        self.line("\nThe links:");
-        for (name, link) in links() {
+    /// Fresh links, by the number that they are asked for with.
+    fn makers(&mut self) {
+        self.line("\nFresh links:");
+        for edition in ASKED {
+            let (outcome, _) = compare_fresh(edition, self.tally);
+            let (number, link) = (outcome.answer.number, link_text(&outcome.link));
+            let name = format!("edition {edition}");
+            self.line(&format!("  {name:<14} {number}  {link}"));
+        }
+    }
+
+    fn named_links(&mut self, edition: u8) {
+        for (name, link) in links(edition) {
             self.line(&format!("  {name:<14} {}", link_text(&link)));
         }
-        for (name, event) in events() {
-            self.line(&format!("\n{name}"));
-            for (name, link) in links() {
+    }
+
+    /// Each event, with what it leads to at each link of an edition.
+    fn steps(&mut self, edition: u8) -> Vec<(String, Vec<String>)> {
+        let each = |(name, event): (String, Event)| {
+            let rows = links(edition).into_iter().map(|(link_name, link)| {
                 let given = self.call(&link, &event, REPLY);
-                let text = outcome(&link, &event, &given);
-                self.line(&format!("  {name:<14} {text}"));
+                format!("  {link_name:<14} {}", outcome(&link, &event, &given))
+            });
+            (name, rows.collect())
+        };
+        events(edition).into_iter().map(each).collect()
+    }
+
+    fn all_steps(&mut self) {
+        self.line("\nThe links:");
+        self.named_links(1);
+        let (first, second) = (self.steps(1), self.steps(2));
+        first.iter().for_each(|step| self.block(step));
+        self.line("\n\nEdition 2: RESET, and every event that does not come to the same as above.\n\nThe links:");
+        self.named_links(2);
+        for (first, second) in first.iter().zip(&second) {
+            let same: Vec<_> = first.1.iter().map(|row| as_edition_2(row)).collect();
+            if first.0 != second.0 || same != second.1 || first.0 == "RESET" {
+                self.block(second);
             }
         }
     }
 
-    /// The numbers of all packets of some lengths by their control octet, a line a high nibble; equal lines are one.
+    /// A name, and the rows below it.
+    fn block(&mut self, (name, rows): &(String, Vec<String>)) {
+        self.line(&format!("\n{name}"));
+        rows.iter().for_each(|row| self.line(row));
+    }
+
+    /// The numbers of all packets of some lengths by their control octet, a line a high nibble; equal lines are one. Of edition 2
+    /// where they are others than those of edition 1.
     fn controls(&mut self) {
-        self.line("\n\nPackets by their control octet: numbers for low nibbles 0 to F, or one where all are the same");
-        for (name, link) in links() {
+        self.line("\n\nPackets by their control octet: numbers for low nibbles 0 to F, or one where all are the same. Of edition 2 what is not the same as of edition 1");
+        for (first, second) in links(1).into_iter().zip(second_links()) {
             for length in [1, 2, PAYLOAD + 1, PAYLOAD + 2] {
-                self.line(&format!("\n{name}, packets of {length}"));
-                let rows: Vec<_> = (0..16)
-                    .map(|high| self.control_row(&link, high, length))
-                    .collect();
+                let [rows, others] =
+                    [&first.1, &second.1].map(|link| self.control_rows(link, length));
+                self.line(&format!("\n{}, packets of {length}", first.0));
                 self.equal_rows_as_one(&rows);
+                if rows != others {
+                    self.line(&format!("\n{}, packets of {length}", second.0));
+                    self.equal_rows_as_one(&others);
+                }
             }
         }
+    }
+
+    fn control_rows(&mut self, link: &Link, length: usize) -> Vec<String> {
+        (0..16)
+            .map(|high| self.control_row(link, high, length))
+            .collect()
     }
 
     fn equal_rows_as_one(&mut self, rows: &[String]) {
@@ -135,8 +181,9 @@ impl Table<'_> {
         self.line(&format!(
             "\n\nThe events above in order, numbers alone, with a reply buffer of {room} octets\n"
         ));
-        for (name, link) in links().into_iter().chain(odd_links()) {
-            let numbers: Vec<u8> = events()
+        let links = links(1).into_iter().chain(second_links());
+        for (name, link) in links.chain(odd_links()) {
+            let numbers: Vec<u8> = events(1)
                 .iter()
                 .map(|(_, event)| self.number(&link, event, room))
                 .collect();
@@ -152,12 +199,18 @@ pub fn text(rng: &Rng, tally: &mut Tally) -> String {
         tally,
         text: HEADING.to_string(),
     };
-    table.steps();
+    table.makers();
+    table.all_steps();
     table.controls();
     table.numbers(REPLY);
     table.numbers(REPLY - 1);
     let text = table.text;
-    text + &worked_run(rng, tally)
+    text + &worked_runs(rng, tally)
+}
+
+/// A row of edition 1 as it would be of edition 2, if nothing else were different.
+fn as_edition_2(row: &str) -> String {
+    row.replace("edition 1", "edition 2")
 }
 
 /// Numbers in a line, or one where all are the same.

@@ -1,15 +1,19 @@
-//! A worked run at two open ends: a full queue, each payload sent as it is accepted, each refusal, a loss and its repeat, a
-//! loss by too small a reply buffer, and as many payloads as make the numbers restart. Its counts follow from the queue's
-//! limit alone.
+//! A worked run at two open ends of one edition: a full queue, each payload sent as it is accepted, each refusal, a loss and its
+//! repeat, a loss by too small a reply buffer, and as many payloads as make the numbers restart. Its counts follow from the
+//! queue's limit alone.
+mod mixed;
+
 use super::super::tally::Tally;
 use super::call::Event;
-use super::ends::{fresh_end, Ends};
-use second::link::{PAYLOAD, QUEUE, REPLY};
+use super::ends::Ends;
+use second::link::{EDITIONS, PAYLOAD, QUEUE, REPLY};
 use second::rng::Rng;
 
 /// Three queues are accepted and delivered; sent are all but four payloads of five queues, since the first two of the first
 /// queue are not repeated.
 const COUNTS: &str = "the worked run's counts are those of its script";
+
+const SAME: &str = "the worked run is the same with either edition";
 
 const LEFT: usize = 0;
 const RIGHT: usize = 1;
@@ -83,40 +87,54 @@ fn act(ends: &mut Ends, act: Act) -> Option<u8> {
     }
 }
 
-/// The run as text: the numbers of each step, and what it came to.
-pub fn worked_run(rng: &Rng, tally: &mut Tally) -> String {
-    let mut ends = Ends {
-        rng,
-        tally,
-        ends: [fresh_end(), fresh_end()],
-        claimed: true,
-        waits: true,
-        loss: None,
-        calls: 0,
-    };
+/// Plays a script: a line for each step, with its numbers.
+fn play(ends: &mut Ends, script: &[Step]) -> String {
     ends.open(LEFT);
-    let script = script();
-    let events: usize = script.iter().map(|(_, times, _)| times).sum();
-    let mut text = format!("\n\nA run of {events} events at two open ends, with the numbers answered. Payloads and timers are the left end's\n\n");
-    for (name, times, what) in script {
+    let mut text = String::new();
+    for &(name, times, what) in script {
         let numbers: Vec<_> = (0..times)
-            .filter_map(|_| act(&mut ends, what))
+            .filter_map(|_| act(ends, what))
             .map(|n| n.to_string())
             .collect();
         text += format!("  {name:<32} {}", numbers.join(" ")).trim_end();
         text.push('\n');
     }
-    text += &came_to(&mut ends);
-    ends.settle();
     text
+}
+
+fn events(script: &[Step]) -> usize {
+    script.iter().map(|(_, times, _)| times).sum()
+}
+
+/// The run at two ends of an edition as text: the numbers of each step, and what it came to.
+fn worked_run(rng: &Rng, tally: &mut Tally, edition: u8) -> String {
+    let mut ends = Ends::fresh(rng, tally, [edition; 2]);
+    let text = play(&mut ends, &script());
+    let came_to = came_to(&mut ends);
+    ends.settle();
+    text + &came_to
 }
 
 fn came_to(ends: &mut Ends) -> String {
     let [left, right] = &ends.ends;
-    let counts = [left.accepted.len(), right.delivered, left.sent, left.lost()];
+    let counts = [
+        left.accepted.len(),
+        right.delivered.len(),
+        left.sent,
+        left.lost(),
+    ];
     let [accepted, delivered, sent, lost] = counts;
     let (oldest, awaited) = (left.archive.base, right.archive.expected);
     let holds = counts == [3 * QUEUE, 3 * QUEUE, 5 * QUEUE - 4, 2];
     ends.tally.claim(COUNTS, holds);
     format!("\naccepted {accepted}, delivered {delivered}, DATA sent {sent}, lost {lost}; oldest {oldest}, awaited {awaited}\n")
+}
+
+/// All runs as text: the one of two ends of one edition, and those of mixed editions.
+pub fn worked_runs(rng: &Rng, tally: &mut Tally) -> String {
+    let [first, second] = EDITIONS.map(|edition| worked_run(rng, tally, edition));
+    tally.claim(SAME, first == second);
+    let events = events(&script());
+    let title = format!("\n\nA run of {events} events at two open ends of edition 1, and of edition 2 as well, with the numbers answered. Payloads and timers are the left end's\n\n");
+    title + &first + &mixed::worked_runs(rng, tally)
 }

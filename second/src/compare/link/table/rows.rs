@@ -14,7 +14,7 @@ const SOME: usize = 3;
 pub const STATES: [&str; 4] = ["DLIDLE", "DLRESET", "DLDATA", "DLDWAIT"];
 
 /// A link with `count` payloads of 0, 1, 2 .. octets, which are letters; an open one with the table's numbers.
-fn link(state: u8, count: usize) -> Link {
+fn link(edition: u8, state: u8, count: usize) -> Link {
     let queued = |i: usize| Queued {
         length: i,
         octets: from_fn(|k| if k < i { b'A' + k as u8 } else { 0 }),
@@ -28,24 +28,47 @@ fn link(state: u8, count: usize) -> Link {
         },
         base: if opened { OLDEST } else { 0 },
         expected: if opened { AWAITED } else { 0 },
+        edition,
     }
 }
 
 type Named<T> = (String, T);
 
-/// A link in each state, and one with a full queue.
-pub fn links() -> Vec<Named<Link>> {
+/// A link of an edition in each state, and one with a full queue.
+pub fn links(edition: u8) -> Vec<Named<Link>> {
     vec![
-        ("DLIDLE".into(), fresh()),
-        ("DLRESET".into(), link(1, 0)),
-        ("DLDATA".into(), link(2, 0)),
-        ("DLDWAIT".into(), link(3, SOME)),
-        ("DLDWAIT, full".into(), link(3, QUEUE)),
+        ("DLIDLE".into(), fresh(edition).link),
+        ("DLRESET".into(), link(edition, 1, 0)),
+        ("DLDATA".into(), link(edition, 2, 0)),
+        ("DLDWAIT".into(), link(edition, 3, SOME)),
+        ("DLDWAIT, full".into(), link(edition, 3, QUEUE)),
     ]
 }
 
-/// A value for each way of not being well formed; and last one that is, whose free slots hold anything.
+/// Links of edition 2, with a name that says so.
+pub fn second_links() -> Vec<Named<Link>> {
+    let named = |(name, link)| (format!("{name}, edition 2"), link);
+    links(2).into_iter().map(named).collect()
+}
+
+/// What numbers a fresh link is asked for with.
+pub const ASKED: [u8; 5] = [0, 1, 2, 3, 255];
+
+/// Links of no edition.
+fn unknown_editions() -> Vec<Named<Link>> {
+    let named = |edition| {
+        let name = format!("DLDATA with edition {edition}");
+        (name, link(edition, 2, 0))
+    };
+    let mut links: Vec<_> = [0, 3, 255].map(named).into();
+    links.push(("all fields 0".to_string(), link(0, 0, 0)));
+    links
+}
+
+/// A value for each way of not being well formed, of edition 1 where nothing else is said; and last one that is well formed,
+/// whose free slots hold anything.
 pub fn odd_links() -> Vec<Named<Link>> {
+    let link = |state, count| link(1, state, count);
     let with = |name: &str, mut link: Link, change: fn(&mut Link)| {
         change(&mut link);
         (name.to_string(), link)
@@ -73,6 +96,7 @@ pub fn odd_links() -> Vec<Named<Link>> {
             }),
         ]);
     }
+    odd.extend(unknown_editions());
     odd.push(with("DLDWAIT, 257 in a free slot", link(3, SOME), |l| {
         l.queue.slots[SOME].length = PAYLOAD + 1
     }));
@@ -83,8 +107,9 @@ pub fn packet(kind: u8, number: u8, payload: usize) -> Event {
     Event::Arrival([&[kind | (number % 16)], &vec![b'x'; payload][..]].concat())
 }
 
-/// The events in the order of the step table's rows; at last the packet that is none.
-pub fn events() -> Vec<Named<Event>> {
+/// The events in the order of the step table's rows, DACKs by the distance that the edition gives them; at last the packet that
+/// is none.
+pub fn events(edition: u8) -> Vec<Named<Event>> {
     let mut events = vec![
         ("RESET".into(), packet(0x10, 0, 0)),
         ("start".into(), Event::Start),
@@ -103,7 +128,8 @@ pub fn events() -> Vec<Named<Event>> {
     }
     // none is above a full queue: behind 15 comes 0 again
     for distance in [0, 1, SOME, SOME + 1, QUEUE - 1, QUEUE] {
-        let number = (OLDEST + distance as u8) % 16;
+        // what is acknowledged is through the number before, or "through x"
+        let number = (OLDEST + distance as u8 + 1 - edition) % 16;
         let name = format!("DACK {number}, distance {distance}");
         events.push((name, packet(0x50, number, 0)));
     }
