@@ -18,6 +18,16 @@ static uint8_t payload[HASFANDUR_DLC_MAX_PAYLOAD];
 /* a link that RESET has opened, and one whose queue is full of the longest payloads */
 static hasfandur_dlc_link opened, full;
 
+/* Links have an edition since 0.10.0; trees before it are timed too. */
+static hasfandur_dlc_link fresh(void)
+{
+#if HASFANDUR_VERSION_NUMBER >= 1000
+    return hasfandur_dlc_fresh(HASFANDUR_DLC_EDITION_1).link;
+#else
+    return hasfandur_dlc_fresh();
+#endif
+}
+
 static void timer(void)
 {
     hasfandur_dlc_link link = full;
@@ -97,7 +107,7 @@ int main(int argc, char **argv)
     const int rounds = argc > 1 ? atoi(argv[1]) : 200;
     double best[ROWS];
     memset(payload, 0x5A, sizeof payload);
-    opened = hasfandur_dlc_arrival(hasfandur_dlc_fresh(), packet, sizeof packet, reply, sizeof reply).link;
+    opened = hasfandur_dlc_arrival(fresh(), packet, sizeof packet, reply, sizeof reply).link;
     full = opened;
     for (int i = 0; i < HASFANDUR_DLC_SLOTS; i++) {
         full = hasfandur_dlc_payload(full, payload, sizeof payload, reply, sizeof reply).link;

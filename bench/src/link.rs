@@ -11,6 +11,9 @@ pub const ROWS: &[fn() -> Row] = &[timer, payload];
 /// The events of a turn. The link that an event gives back goes into the next.
 const EVENTS: usize = 64;
 
+/// Of every link: these events are the same with either edition, which says how DACK is read.
+const EDITION: u8 = 1;
+
 fn payloads() -> Vec<Vec<u8>> {
     let rng = Rng::new(7);
     (0..QUEUE).map(|_| rng.octets(PAYLOAD)).collect()
@@ -18,7 +21,7 @@ fn payloads() -> Vec<Vec<u8>> {
 
 /// A link that waits, in the form that C has.
 fn waiting() -> archive::Link {
-    let mut link = archive::fresh();
+    let mut link = archive::fresh(EDITION).link;
     link.state = 3;
     link.queue.count = QUEUE;
     for (slot, payload) in link.queue.slots.iter_mut().zip(payloads()) {
@@ -52,8 +55,7 @@ fn by_second() -> impl FnMut() -> usize {
     let mut link = Some(Link {
         mode: Mode::Wait,
         queue: payloads(),
-        oldest: 0,
-        awaited: 0,
+        ..Link::fresh(EDITION)
     });
     move || {
         let mut total = 0;
@@ -72,7 +74,7 @@ type Payload = fn(archive::Link, &[u8], &mut [u8]) -> archive::Outcome;
 fn queued_by_value(payload: Payload) -> impl FnMut() -> usize {
     let (payloads, mut reply) = (payloads(), vec![0; REPLY]);
     move || {
-        let (mut link, mut total) = (archive::fresh(), 0);
+        let (mut link, mut total) = (archive::fresh(EDITION).link, 0);
         for i in 0..EVENTS {
             if i % QUEUE == 0 {
                 link.state = 2;
@@ -89,7 +91,7 @@ fn queued_by_value(payload: Payload) -> impl FnMut() -> usize {
 fn queued_by_second() -> impl FnMut() -> usize {
     let (payloads, mut reply) = (payloads(), vec![0; REPLY]);
     move || {
-        let (mut link, mut total) = (Link::fresh(), 0);
+        let (mut link, mut total) = (Link::fresh(EDITION), 0);
         for i in 0..EVENTS {
             if i % QUEUE == 0 {
                 link.mode = Mode::Data;
