@@ -100,7 +100,7 @@ static payloads gone(void)
 static void tally(void)
 {
     const payloads missing = gone();
-    const size_t bound = accepted.number + 15 * lost;
+    const size_t bound = accepted.number + HASFANDUR_DLC_SLOTS * lost;
     const bool initial = delivered.number <= accepted.number && memcmp(delivered.counts, accepted.counts, delivered.number) == 0;
     print_payloads("     accepted", &accepted);
     print_payloads("; delivered", &delivered);
@@ -266,7 +266,7 @@ static void two_payloads(uint8_t edition_here, uint8_t edition_there)
 static void fifteen_payloads(uint8_t edition_here, uint8_t edition_there)
 {
     begin("fifteen payloads", edition_here, edition_there);
-    while (offered < 15) {
+    while (offered < HASFANDUR_DLC_SLOTS) {
         payload();
     }
     data_lost();

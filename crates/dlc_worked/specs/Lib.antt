@@ -1,3 +1,4 @@
 pub mod Script
 pub mod Again
 pub mod Mixed
+pub mod Choices
