@@ -6,7 +6,7 @@
 --   play ms w           the world after a list of them
 --   waited d ms w       whether each timer call of this side came when none of its DATA and no DACK to it was on the line
 --   inOrder, inBound    whether what is delivered is an initial part of what was accepted; whether the DATA sent are within the bound
-use Prim.Native.Nat.{ℕ, suc, _+_, _*_}
+use Prim.Native.Nat.{suc, _+_, _*_}
 use mathlib.Core.Bool.{Bool, true, false, not, _&&_, _||_}
 use mathlib.Core.List.{List, [], _∷_}
 use lib.ListN.{length, getD}
