@@ -268,7 +268,7 @@ typedef struct hasfandur_conversion {
 hasfandur_conversion hasfandur_qaft_to_kiss(uint8_t level, const uint8_t *capture, size_t capture_length, uint8_t *out, size_t out_length);
 hasfandur_conversion hasfandur_kiss_to_qaft(uint8_t level, const uint8_t *capture, size_t capture_length, uint8_t *out, size_t out_length);
 
-/* The editions of the supplier's firmware, which read the number x of a DACK in two ways. Both ends of a link use the same. */
+/* The editions of the supplier's firmware, which read the number x of a DACK in two ways. Both ends of a link must use the same. */
 /* begin editions: written by include/numbers */
 enum hasfandur_dlc_edition {
     HASFANDUR_DLC_EDITION_1 = 1, /* DACK x acknowledges through x-1 */
