@@ -36,8 +36,8 @@ extern "C" {
 #endif
 
 /* The numbers given back. Where several refusals apply the first is given: QAFT writer 6, 7, 1, 2, 3; QAFT reader 6, 7, 4, 5; KISS
- * writer 1, 2, 64; KISS reader 4, 5; conversions 6, then 64 to KISS and 3 to QAFT; fresh link 28; link 27, 26, 23, 21, 20, 22, 24; AFP reader 30
- * upward; AFP writer 33, 35, 36, 38, 34, 40, 41; line sheet 6, 50, 51. */
+ * writer 1, 2, 64; KISS reader 4, 5; conversions 6, then 64 to KISS and 3 to QAFT; fresh link 28; link 27, 26, 23, 21, 20, 22, 24;
+ * AFP reader 30 upward; AFP writer 33, 35, 36, 38, 34, 40, 41; line sheet 6, 50, 51. */
 /* begin numbers: written by include/numbers */
 enum hasfandur_number {
     HASFANDUR_DONE = 0, /* done */

@@ -18,7 +18,7 @@ use Rattle.dlc_pair.specs.Demand3.{BothOpen, Demand3}
 use Rattle.dlc_pair.specs.Opening.{openingEvents}
 use Rattle.dlc_pair.specs.Progress.{Enough}
 use Rattle.dlc_pair.proofs.Demand3.{demand-three}
-use Rattle.dlc_pair.proofs.Theorems.{opened-value, history-exists, history-goes-on}
+use Rattle.dlc_pair.proofs.Theorems.{both-open, opened-value, history-exists, history-goes-on}
 use Rattle.dlc_pair.proofs.Opening.{opening-exists}
 
 -- ---- demand 3
@@ -29,15 +29,22 @@ pub demand-three-plain : (l l′ : PlainLink) → BothOpen plainView l l′ → 
     → Demand3 plainView es (initial l l′) h
 demand-three-plain = demand-three plainView
 
--- ---- it is not about nothing: there are open links of each edition, every list of events has a history, and events can go on whatever came back so
--- far; of one edition or of two
-module _ (d d′ : Edition) where
+-- ---- it is not about nothing: there are open links of each edition, and two of them are as demand 3 has them
+module _ (d : Edition) where
   pub open-link : (l : Link) × (view l ≡ opened d)
   open-link = opened-value link-covers d
 
   pub open-plain : (l : PlainLink) × (plainView l ≡ opened d)
   open-plain = opened-value plain-covers d
 
+  pub both-open-link : BothOpen view (open-link .0) (open-link .0)
+  both-open-link = both-open d (open-link .1) (open-link .1)
+
+  pub both-open-plain : BothOpen plainView (open-plain .0) (open-plain .0)
+  both-open-plain = both-open d (open-plain .1) (open-plain .1)
+
+-- every list of events has a history, and events can go on whatever came back so far; of one edition or of two
+module _ (d d′ : Edition) where
   pub history-exists-link : (l l′ : Link) → view l ≡ opened d → view l′ ≡ opened d′ → (es : List Event) → History view es (initial l l′)
   history-exists-link l l′ e e′ = history-exists link-covers l l′ e e′
 

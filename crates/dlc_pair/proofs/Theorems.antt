@@ -2,7 +2,7 @@
 -- what was accepted is delivered where nothing was lost, and what waits once nothing is lost any more (the theorems of whatever the step table
 -- simulates, at the rules of this link). Each from open ends, the latter of one edition. Assumes nothing.
 use Prim.Native.Nat.{ℕ, _≤_}
-use mathlib.Core.Path.{_≡_, sym, subst}
+use mathlib.Core.Path.{_≡_, sym, ap, subst, _∙_}
 use mathlib.Core.List.{List, []}
 use lib.ListN.{length}
 use Rattle.dlc_packet.specs.Numbers.{Edition}
@@ -20,6 +20,12 @@ use Rattle.dlc_pair.proofs.Effects.{opened-fits, lawful, simulates}
 use Rattle.dlc_pair.proofs.Demand3.{open-follow}
 use Rattle.dlc_pair.proofs.Existence.{BothFit, run-fit, history-of}
 use Rattle.dlc_pair.proofs.Progress.{without-loss-from, progress-from, recovers-from}
+
+-- two links that stand open in one edition are as demand 3 has them at the start
+pub both-open : {L : Type 0} {v : L → Model} {l l′ : L} (d : Edition) → v l ≡ opened d → v l′ ≡ opened d → BothOpen v l l′
+both-open d e e′ =
+    let edition : Model → Edition = λ (m : Model). m .edition in
+    record { left = e ∙ ap opened (sym (ap edition e)); right = e′ ∙ ap opened (sym (ap edition e′)); same = ap edition e ∙ sym (ap edition e′) }
 
 module _ {L : Type 0} {v : L → Model} (covers : Covers v) where
   -- there is a link of each edition that stands open

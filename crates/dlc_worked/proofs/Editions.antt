@@ -107,8 +107,8 @@ pub premise-needed : ((l l′ : Link) (d d′ : Edition) → view l ≡ opened d
     → Demand3 view es (initial l l′) h)
     → ⊥
 premise-needed c =
-    let l = open-link edition1 edition2 in
-    let l′ = open-link edition2 edition1 in
+    let l = open-link edition1 in
+    let l′ = open-link edition2 in
     let h = history-exists-link edition1 edition2 (l .0) (l′ .0) (l .1) (l′ .1) unsettled in
     demand-three-broken view (l .0) (l′ .0) edition1 (l .1) (l′ .1) h (c (l .0) (l′ .0) edition1 edition2 (l .1) (l′ .1) unsettled h)
 
