@@ -1,5 +1,7 @@
 // AFP: limits, answer numbers and parts of a frame, and the refusals of length and data offset, which every reader of frames has. Definitions:
 // specs/Limits, Answers, Layout, Sizes.
+#![tactic(auto)]
+
 ghost use Rattle.std.specs.Prelude.{◌≡◌};
 ghost use Rattle.common.specs.FirstRefusal.{first_refusal};
 ghost use Rattle.afp.specs.Layout.{part_of};

@@ -1,5 +1,7 @@
 // AFP: the parts of a frame that an answer of the reader shows, each as a returned part of the lent frame, for every frame and
 // every answer value.
+#![tactic(auto)]
+
 ghost use Rattle.std.specs.Prelude.{◌≡◌};
 ghost use Rattle.afp.specs.Layout.{part_of};
 

@@ -1,4 +1,6 @@
 // The AFP reader: the first refusal of a frame, or what stands where in it. Definitions: specs/Read, specs/Meaning.
+#![tactic(auto)]
+
 ghost use Rattle.std.specs.Prelude.{◌≡◌, ◌+◌, ◌≤◌, length};
 ghost use Rattle.common.specs.FirstRefusal.{first_refusal};
 ghost use Rattle.afp.specs.Limits.{min_frame, min_header, fixed_size};

@@ -1,5 +1,7 @@
 // Who an AFP frame is for next, from its length, octets 0, 3 and 4 and the one station field that octet 4 points at: for a relay that need not
 // read a frame for somebody else. Definitions: specs/Receiver.
+#![tactic(auto)]
+
 ghost use Rattle.std.specs.Prelude.{◌≡◌, ◌+◌, ◌-◌, ◌≤◌, length};
 ghost use Rattle.common.specs.Refusals.{guarded};
 ghost use Rattle.afp.specs.Limits.{min_header};

@@ -1,5 +1,7 @@
 // The AFP writer: a frame at the front of a lent buffer. The parts of a frame are `fields`, the station fields with their closing 0,
 // `supplementary`, the supplementary header with its length octet or nothing, and `payload`, the data. Definitions: specs/Frame, specs/Write.
+#![tactic(auto)]
+
 ghost use Rattle.std.specs.Prelude.{◌≡◌, ◌++◌, ◌+◌, ◌≤◌, length, take};
 ghost use Rattle.std.proofs.lemmas.List.Edits.{sets};
 ghost use Rattle.common.specs.FirstRefusal.{first_refusal};

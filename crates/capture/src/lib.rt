@@ -1,5 +1,7 @@
 // A captured line: its raw octets before the first flag, between flags and after the last, and its flags, counted chunk after chunk
 // (specs/Octets; of a whole capture: specs/Whole). A chunk is taken apart (`parts_of`), and its parts are counted at once (`Octets::with`).
+#![tactic(auto)]
+
 ghost use Rattle.std.specs.Prelude.{◌+◌, ◌≤◌, ◌<◌, cond, ◌≡◌, length};
 ghost use Rattle.capture.specs.Octets.{fresh_octets, plain_added, flags_added, count_all, parts_of, parts_added};
 ghost use Rattle.capture.specs.Whole.{before, flags, after};

@@ -1,5 +1,7 @@
 // A capture that is held whole, as a line of the other framing (specs/Whole). Nothing is written before it is known that all of it has
 // room: the capture is converted twice, first to measure the line. The reader's buffer is inside.
+#![tactic(auto)]
+
 ghost use Rattle.std.specs.Prelude.{◌≡◌, true, false, ◌+◌, ◌≤◌, leb, length, take};
 ghost use Rattle.std.proofs.lemmas.List.Edits.{sets};
 ghost use Rattle.qaft.specs.Limits.{max_level};

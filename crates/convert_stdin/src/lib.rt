@@ -1,6 +1,8 @@
 // Converts a captured line from standard input to a line of the other framing on standard output. What is written is proved in
 // `converter` and `conversion_laws`; here octets are moved. Memory is constant: one chunk, one segment and some frames at a time.
 // Each chunk's frames are written before the next is read, so that a live line goes on at once.
+#![tactic(auto)]
+
 ghost use Rattle.std.specs.Prelude.{◌≡◌, cond, ltb};
 ghost use Rattle.qaft.specs.Limits.{max_level};
 ghost use Rattle.qaft.specs.Answers.{bad_level, done};

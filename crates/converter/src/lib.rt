@@ -1,6 +1,8 @@
 // A capture of one framing as a line of the other, chunk after chunk: what stands between whoever reads the capture and whoever
 // writes the line. A call on a chunk puts the frames that it closes at the front of a lent buffer (specs/Convert). That the octets
 // of all calls are the line of the capture's frames is a theorem of the crate conversion_laws.
+#![tactic(auto)]
+
 ghost use Rattle.std.specs.Prelude.{◌≡◌, ◌≤◌, length};
 ghost use Rattle.common.specs.Buffer.{with_front};
 ghost use Rattle.qaft.specs.Limits.{max_level, max_data, max_segment, max_frame};

@@ -1,5 +1,7 @@
 // Counts that stop at a limit, so that nothing is counted wrong however much there is of it: a count that has reached the limit
 // stays where it is (specs/Counted).
+#![tactic(auto)]
+
 ghost use Rattle.std.specs.Prelude.{◌≡◌};
 ghost use Rattle.counter.specs.Counted.{counted};
 

@@ -2,6 +2,8 @@
 // hands over its rule, and judges the state that the flag found. What a rule says: specs/Rule; a call: specs/Scan; the laws of
 // it: the crate framing. Runs of octets that stand for themselves: run.rt; the running check: check.rt; octets
 // where many are escaped: pairs.rt; states with a field set: states.rt.
+#![tactic(auto)]
+
 ghost use Rattle.std.specs.Prelude.{◌≡◌, not, ◌||◌, ◌≤◌, length};
 ghost use Rattle.framing.specs.Step.{next, malformed};
 ghost use Rattle.deframer.specs.Rule.{is_skipped, partner_of, is_bad_pair, rules_of};

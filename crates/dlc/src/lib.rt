@@ -3,6 +3,8 @@
 // rows.rt, what a well-formed link is in form.rt.
 // Definitions: specs/ (View: when a link value is well formed, and how the step table sees it; Calls: what each call promises). The step table
 // is in the crate dlc_table, the queue in dlc_queue; no field of the queue is looked at here.
+#![tactic(auto)]
+
 ghost use Rattle.std.specs.Prelude.{◌≡◌, true, cond, [], ◌∷◌, ◌+◌, ◌≤◌, length, eqb};
 ghost use Rattle.dlc_packet.specs.Numbers.{edition_of, known_edition};
 ghost use Rattle.dlc_table.specs.Model.{fresh};

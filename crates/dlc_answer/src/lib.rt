@@ -1,4 +1,6 @@
 // What an event of a DLC link answers, and the part of a packet that it delivers. Definitions: specs/. Its numbers are those of dlc_table.
+#![tactic(auto)]
+
 ghost use Rattle.std.specs.Prelude.{◌≡◌};
 ghost use Rattle.dlc_answer.specs.Delivered.{delivered_part};
 

@@ -1,5 +1,7 @@
 // A link in plain numbers, for C programs: its state is a number, and any number may come.
 // The four events are those of the crate dlc. A state that is none of the four makes the value ill formed: answered with 27, as there.
+#![tactic(auto)]
+
 ghost use Rattle.std.specs.Prelude.{◌≡◌};
 ghost use Rattle.dlc_table.specs.Answers.{bad_link};
 ghost use Rattle.dlc_table.specs.Events.{refuse};

@@ -1,5 +1,7 @@
 // The queue of a DLC link: at most SLOTS payloads of at most 256 octets, oldest first, by value.
 // It is sent by the crate dlc_send. Definitions: specs/. Every public function takes any queue value whatever, also one that no call has made.
+#![tactic(auto)]
+
 ghost use Rattle.std.specs.Prelude.{◌≡◌, true, ◌-◌, ◌≤◌, length, take, drop};
 ghost use Rattle.dlc_packet.specs.Packet.{max_payload};
 ghost use Rattle.dlc_queue.specs.Queue.{slots, octets_of, held, all_short, formed, at_rest, fresh, emptied, Pushed, Removed};

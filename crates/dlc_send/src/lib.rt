@@ -1,4 +1,6 @@
 // The queue of a DLC link sent: its payloads as DATA packets, one after another in a lent buffer. Definitions: specs/.
+#![tactic(auto)]
+
 ghost use Rattle.std.specs.Prelude.{◌≡◌, true, map, ◌+◌, ◌≤◌, ◌<◌, length, take};
 ghost use Rattle.std.proofs.lemmas.List.Edits.{sets};
 ghost use Rattle.dlc_packet.specs.Numbers.{modulus};

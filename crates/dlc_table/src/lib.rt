@@ -1,5 +1,6 @@
 // The states of a DLC link, and the numbers that its events answer. The step table over them is in specs/ (Model: a link as the paper has it;
 // Events: the table; Runs: lists of events), its laws and worked cases are in proofs/.
+#![tactic(auto)]
 
 // DLIDLE, DLRESET, DLDATA, DLDWAIT
 #[derive(Drop)]

@@ -1,5 +1,7 @@
 // Octets that are escaped on a flagged line, and what stands for each of them behind the escape: what the writers and readers
 // of every framing go by. Definitions: specs/Escapes.
+#![tactic(auto)]
+
 ghost use Rattle.std.specs.Prelude.{cond, ◌≡◌, ◌+◌, ◌≤◌, eqb, length, drop};
 ghost use Rattle.common.specs.Plain.{plain, plain_length};
 ghost use Rattle.escapes.specs.Escapes.{is_escaped, is_partner, stands_for};

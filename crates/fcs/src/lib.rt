@@ -1,4 +1,6 @@
 // The frame check sequence of ISO 3309, without a table: eight octets at a time, and the last few at once; fewer than eight by twos.
+#![tactic(auto)]
+
 ghost use Rattle.std.specs.Prelude.{◌≡◌, ◌+◌, ◌-◌, ◌*◌, ◌%◌, ◌≤◌, ◌<◌, length, drop};
 ghost use Rattle.fcs.specs.Fcs.{feed, feed_all, check_sequence};
 ghost use Rattle.fcs.specs.Words.{shift_bits, little_endian};

@@ -1,4 +1,6 @@
 // Two whole numbers in lowest terms (specs/Fraction).
+#![tactic(auto)]
+
 ghost use Rattle.std.specs.Prelude.{◌≡◌};
 ghost use Rattle.fraction.specs.Fraction.{gcd, lowest_of};
 

@@ -1,5 +1,7 @@
 // The one frame writer of every framing: octets between flags, escaped as an `Escapes` says. What it answers and writes:
 // specs/Write; a frame on the line: the crate framing, specs/Writing.
+#![tactic(auto)]
+
 ghost use Rattle.std.specs.Prelude.{◌≡◌, ◌≤◌, length};
 ghost use Rattle.std.proofs.lemmas.List.Edits.{sets};
 ghost use Rattle.framing.specs.Writing.{opening};

@@ -1,5 +1,7 @@
 // What C programs call: include/hasfandur.h declares each function here and says its contract in words.
 // A slice crosses as a pointer and a length. Each function only calls the library's, and promises the same.
+#![tactic(auto)]
+
 ghost use Rattle.std.specs.Prelude.{◌≡◌};
 ghost use Rattle.qaft.specs.Check.{check_octet};
 ghost use Rattle.qaft_write.specs.Write.{write_frame};

@@ -1,6 +1,8 @@
 // The conversions as C programs call them, as the crate hasfandur has the rest: include/hasfandur.h declares each function here and
 // says its contract in words. A crate of its own, so that the loops that all framings share are compiled for both ways by itself
 // (docs/SPEED.md).
+#![tactic(auto)]
+
 ghost use Rattle.std.specs.Prelude.{◌≡◌, true, false};
 ghost use Rattle.conversion.specs.Whole.{convert_whole};
 

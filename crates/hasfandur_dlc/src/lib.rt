@@ -1,5 +1,7 @@
 // The DLC link as C programs call it: include/hasfandur.h declares each function here and says its contract in words.
 // The link crosses in plain numbers: any number may come. Each event takes a link and gives it back with an answer.
+#![tactic(auto)]
+
 ghost use Rattle.dlc.specs.Calls.{MakeCall, StartCall, TimerCall, PayloadCall, ArrivalCall};
 ghost use Rattle.dlc_plain.specs.Plain.{view};
 

@@ -1,5 +1,7 @@
 // KISS as C programs call it, as the crate hasfandur has the rest: include/hasfandur.h declares each function here and says its
 // contract in words. A crate of its own, so that the loops that all framings share are compiled for KISS by itself (docs/SPEED.md).
+#![tactic(auto)]
+
 ghost use Rattle.std.specs.Prelude.{◌≡◌};
 ghost use Rattle.kiss_write.specs.Write.{write_frame};
 ghost use Rattle.kiss_read.specs.State.{fresh};

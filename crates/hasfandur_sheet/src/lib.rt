@@ -1,5 +1,7 @@
 // The line sheet as C programs call it, as the crate hasfandur has the rest: include/hasfandur.h declares each function here and says
 // its contract in words.
+#![tactic(auto)]
+
 ghost use Rattle.std.specs.Prelude.{◌≡◌, length};
 ghost use Rattle.sheet_count.specs.Count.{count_call};
 ghost use Rattle.sheet_line.specs.Line.{line_text, line_room};

@@ -1,4 +1,6 @@
 // The rule of a station ID: a callsign, and what a station may append to it after "-".
+#![tactic(auto)]
+
 ghost use Rattle.std.specs.Prelude.{◌≡◌};
 ghost use Rattle.ids.specs.Id.{between, is_callsign, is_graphic, callsign_length, all_graphic, valid_id};
 

@@ -1,5 +1,7 @@
 // KISS: what writer and reader share. The octets with a meaning on the line, the limits, and the numbers that are its own.
 // Definitions: specs/Octets, specs/Limits, specs/Answers; a frame and a line of frames: specs/Frame.
+#![tactic(auto)]
+
 ghost use Rattle.std.specs.Prelude.{◌≡◌};
 ghost use Rattle.kiss.specs.Octets.{escapes};
 

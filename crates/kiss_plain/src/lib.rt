@@ -1,6 +1,8 @@
 // The KISS reader in plain numbers, for C programs: whether a flag has come, whether a DB waits and whether an escape was
 // bad are numbers, and any number may come.
 // A call is the reader's of the crate kiss_read; its answer is in plain numbers too.
+#![tactic(auto)]
+
 ghost use Rattle.std.specs.Prelude.{◌≡◌};
 ghost use Rattle.kiss_read.specs.State.{fresh};
 ghost use Rattle.kiss_read.specs.Read.{read};

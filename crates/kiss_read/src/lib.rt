@@ -1,6 +1,8 @@
 // KISS: the chunk reader. The state and its names: specs/State; one octet: specs/Step; a call: specs/Read; the rules of reading:
 // the crate kiss_rules; reports and their numbers: kiss_report. The loop over a chunk is the deframer's, which all framings share; what
 // the reader hands over and how it judges what comes back: specs/Scanned.
+#![tactic(auto)]
+
 ghost use Rattle.std.specs.Prelude.{◌≡◌, not, ◌<◌, ◌≤◌, length};
 ghost use Rattle.kiss.specs.Limits.{max_segment};
 ghost use Rattle.kiss_rules.specs.Rules.{verdict};

@@ -1,5 +1,7 @@
 // KISS: what a closed segment is reported as, and what a call of a reader comes to: their numbers, and the payload shown.
 // Definitions: specs/Answer.
+#![tactic(auto)]
+
 ghost use Rattle.std.specs.Prelude.{◌≡◌};
 ghost use Rattle.framing.specs.Reports.{shown};
 ghost use Rattle.kiss.specs.Limits.{type_size};

@@ -1,4 +1,6 @@
 // KISS: the frame writer. What it answers and writes: specs/Write; a frame on the line: the crate kiss, specs/Frame.
+#![tactic(auto)]
+
 ghost use Rattle.std.specs.Prelude.{◌≡◌};
 ghost use Rattle.kiss_write.specs.Write.{write_frame};
 

@@ -1,6 +1,8 @@
 // The monthly line sheet over captures in files: line_sheet LEVEL [LINE FILE]... What is counted and printed is proved in sheet_counter,
 // sheet_table and sheet_line; here arguments are looked at and octets are moved. Memory is constant: one chunk, one segment, the table, and
 // the two arguments of a pair.
+#![tactic(auto)]
+
 ghost use Rattle.std.specs.Prelude.{◌≡◌};
 ghost use Rattle.line_sheet.specs.Levels.{level_of};
 ghost use Rattle.line_sheet.specs.Sheet.{OthersKept};

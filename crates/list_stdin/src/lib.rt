@@ -1,6 +1,8 @@
 // Lists a captured line, of KISS or of QAFT at a level, from standard input to standard output. What is listed is proved in `lister`; here octets are moved.
 // Memory is constant: one chunk, one segment and some lines at a time. Each chunk's lines are written before the next is read,
 // so that a live line shows at once.
+#![tactic(auto)]
+
 ghost use Rattle.std.specs.Prelude.{◌≡◌, cond, ltb};
 ghost use Rattle.qaft.specs.Limits.{max_level};
 ghost use Rattle.qaft.specs.Answers.{bad_level, done};

@@ -2,6 +2,8 @@
 // whoever writes the text out. A call on a chunk puts the lines of its reports at the front of a lent buffer (specs/Lines). That
 // the lines of all chunks, between the heading and the last line, are the listing of the whole capture is a theorem of the crate
 // listing_laws.
+#![tactic(auto)]
+
 ghost use Rattle.std.specs.Prelude.{◌≡◌, ◌+◌, ◌≤◌, length};
 ghost use Rattle.std.proofs.lemmas.List.Edits.{sets};
 ghost use Rattle.qaft.specs.Limits.{max_data, max_segment};

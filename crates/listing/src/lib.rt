@@ -1,5 +1,7 @@
 // The line of a report in a listing, put into a lent buffer (specs/Line). The heading and the last line are in the crate listing_ends; what reads
 // and composes stands above both.
+#![tactic(auto)]
+
 ghost use Rattle.std.specs.Prelude.{◌≡◌, ◌+◌, ◌-◌, ◌*◌, ◌≤◌, length, take, drop};
 ghost use Rattle.octets.specs.Put.{put_end, put_into};
 ghost use Rattle.text.specs.Placed.{Placed};

@@ -1,4 +1,6 @@
 // The first and the last line of a listing, each put into a lent buffer (specs/Ends). The lines of the reports between them are in the crate listing.
+#![tactic(auto)]
+
 ghost use Rattle.std.specs.Prelude.{◌≡◌, ◌+◌, ◌≤◌, length};
 ghost use Rattle.text.specs.Placed.{Placed};
 ghost use Rattle.text.specs.Room.{text_into, text_end};

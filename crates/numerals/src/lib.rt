@@ -1,4 +1,6 @@
 // Numbers as they are typed among a program's arguments (specs/Number).
+#![tactic(auto)]
+
 ghost use Rattle.std.specs.Prelude.{◌≡◌};
 ghost use Rattle.numerals.specs.Number.{typed_of};
 

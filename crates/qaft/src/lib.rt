@@ -1,5 +1,7 @@
 // QAFT: what writer and reader share. The octets with a meaning on the line, the check kinds, the limits, which octets a level
 // escapes, and the check. Definitions: specs/Escape, specs/Limits, specs/Check; a frame and a line of frames: specs/Frame.
+#![tactic(auto)]
+
 ghost use Rattle.std.specs.Prelude.{◌≡◌, ◌-◌, ◌%◌};
 ghost use Rattle.qaft.specs.Escape.{escapes_of};
 ghost use Rattle.qaft.specs.Check.{check_octet, check_pair};

@@ -1,6 +1,8 @@
 // The QAFT reader in plain numbers, for C programs: whether a flag has come, whether a 7D waits and whether a bad pair came are numbers,
 // and any number may come.
 // A call is the reader's of the crate qaft_read; its answer is in plain numbers too.
+#![tactic(auto)]
+
 ghost use Rattle.std.specs.Prelude.{◌≡◌};
 ghost use Rattle.qaft_read.specs.State.{fresh};
 ghost use Rattle.qaft_read.specs.Read.{read};

@@ -1,6 +1,8 @@
 // QAFT: the chunk reader. The state and its names: specs/State; one octet: specs/Step; a call: specs/Read; the rules of reading:
 // the crate qaft_rules; reports and their numbers: qaft_report. The loop over a chunk is the deframer's, which all framings share;
 // what the reader hands over and how it judges what comes back: specs/Scanned.
+#![tactic(auto)]
+
 ghost use Rattle.std.specs.Prelude.{◌≡◌, not, ◌≤◌, length};
 ghost use Rattle.qaft.specs.Check.{check_by};
 ghost use Rattle.qaft.specs.Limits.{max_segment_of};

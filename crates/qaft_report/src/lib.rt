@@ -1,5 +1,7 @@
 // QAFT: what a closed segment is reported as, and what a call of a reader comes to: their numbers, and the data shown.
 // Definitions: specs/Answer.
+#![tactic(auto)]
+
 ghost use Rattle.std.specs.Prelude.{◌≡◌};
 ghost use Rattle.qaft_report.specs.Answer.{report_number, number, report_length, data_length, shown};
 

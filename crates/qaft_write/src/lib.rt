@@ -1,4 +1,6 @@
 // QAFT: the frame writer. What it answers and writes: specs/Write; a frame on the line: the crate qaft, specs/Frame.
+#![tactic(auto)]
+
 ghost use Rattle.std.specs.Prelude.{◌≡◌};
 ghost use Rattle.qaft_write.specs.Write.{write_frame};
 

@@ -1,5 +1,7 @@
 // The monthly line sheet: its limits and answer numbers, the record of a line, and what a capture adds to one. What each count is of a
 // whole capture is said in the crate sheet_rules, over the capture alone.
+#![tactic(auto)]
+
 ghost use Rattle.std.specs.Prelude.{◌≡◌};
 ghost use Rattle.sheet.specs.Tallies.{fresh_tally};
 

@@ -1,5 +1,7 @@
 // What a capture that is held whole adds to its record of the line sheet (specs/Count): for C programs, and for tests. A capture that
 // need not be held whole is counted by the crate sheet_counter, chunk after chunk.
+#![tactic(auto)]
+
 ghost use Rattle.std.specs.Prelude.{◌≡◌};
 ghost use Rattle.sheet_count.specs.Count.{refused, count_call};
 

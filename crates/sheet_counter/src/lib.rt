@@ -1,5 +1,7 @@
 // What a captured line adds to its record of the line sheet, counted chunk after chunk: a capture is never held whole (specs/Count). That
 // the counts of all chunks are those of the whole capture is a theorem of the crate sheet_laws.
+#![tactic(auto)]
+
 ghost use Rattle.std.specs.Prelude.{◌≡◌, ◌≤◌, length};
 ghost use Rattle.qaft.specs.Limits.{max_segment};
 ghost use Rattle.sheet_counter.specs.Count.{fresh_counter, gathered, progress_of, count, counts_in, with_report};

@@ -1,4 +1,6 @@
 // Reports and packets found in a capture so far, for the line sheet, report by report (specs/Found).
+#![tactic(auto)]
+
 ghost use Rattle.std.specs.Prelude.{◌≡◌};
 ghost use Rattle.sheet_rules.specs.Counts.{is_data, is_dack, is_numbered, number_after};
 ghost use Rattle.sheet_found.specs.Found.{fresh_found, found_with, more};

@@ -1,4 +1,6 @@
 // A line of the printed line sheet (specs/Line), put into a lent buffer.
+#![tactic(auto)]
+
 ghost use Rattle.std.specs.Prelude.{◌≡◌, ◌+◌, ◌^◌, ◌≤◌, ◌<◌, length};
 ghost use Rattle.text.specs.Placed.{Placed};
 ghost use Rattle.text.specs.Room.{text_into, text_end};

@@ -1,6 +1,8 @@
 // Raw octets of a capture for the line sheet, chunk after chunk (specs/Raw): those that are read and those that are skipped, which are
 // flow control at level 1 and none at level 0. Each count stops by itself, so the two are counted apart: a difference of two counts
 // that have stopped says nothing.
+#![tactic(auto)]
+
 ghost use Rattle.std.specs.Prelude.{◌≡◌};
 ghost use Rattle.capture.specs.Octets.{parts_of};
 ghost use Rattle.qaft.specs.Escape.{flag};

@@ -1,5 +1,7 @@
 // The line sheet: the tallies of the lines in one lent table, a record a line (specs/Table). A capture changes the record of its own
 // line, and no other.
+#![tactic(auto)]
+
 ghost use Rattle.std.specs.Prelude.{◌≡◌};
 ghost use Rattle.sheet_table.specs.Table.{tally_call, sheet_of};
 

@@ -1,4 +1,6 @@
 // The line sheet: what a capture makes of the record of its line, by value (specs/Adding). The table of records is the crate sheet_table.
+#![tactic(auto)]
+
 ghost use Rattle.std.specs.Prelude.{◌≤◌, ◌≡◌};
 ghost use Rattle.sheet.specs.Limits.{max_count};
 ghost use Rattle.sheet_tally.specs.Adding.{added_of, judged_of};

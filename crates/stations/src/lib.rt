@@ -1,4 +1,6 @@
 // The station fields of an AFP header, and which of them is the next station.
+#![tactic(auto)]
+
 ghost use Rattle.std.specs.Prelude.{◌≡◌, ◌-◌, ◌≤◌, eqb, length, take, drop};
 ghost use Rattle.stations.specs.Fields.{no_next, malformed, next_after, stations_of, next_offset, lacks_next};
 ghost use Rattle.stations.specs.FieldAt.{field_at};

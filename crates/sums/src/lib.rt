@@ -1,4 +1,6 @@
 // AFP's sums: octets added in eight bits with end-around carry (ones' complement), and the two forms in which a header holds them.
+#![tactic(auto)]
+
 ghost use Rattle.std.specs.Prelude.{◌≡◌, ◌+◌, ◌*◌, ◌%◌, ◌^◌, ◌<◌, ◌≤◌, length};
 ghost use Rattle.sums.specs.Sum.{end_around_add, sum_from, next_station_sum, header_sum};
 ghost use Rattle.sums.specs.Total.{chunk, reduced, Totals};

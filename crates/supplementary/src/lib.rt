@@ -1,4 +1,6 @@
 // The supplementary header of an AFP header: a length octet, then exactly that many octets, made wholly of options.
+#![tactic(auto)]
+
 ghost use Rattle.std.specs.Prelude.{◌≡◌, ◌≤◌};
 ghost use Rattle.supplementary.specs.Options.{most_callsigns, callsigns_after, valid_options, valid_supplementary};
 

@@ -1,5 +1,7 @@
 // Numbers and octets as text, put into a lent buffer. Each function promises what `octets::put` promises of the same text: it
 // stands from the index `at` on, and the index behind it is given back; where it does not fit, nothing is put and `at` comes back.
+#![tactic(auto)]
+
 ghost use Rattle.std.specs.Prelude.{◌≡◌, ◌+◌, ◌*◌, ◌≤◌, ◌<◌, length, drop};
 ghost use Rattle.std.proofs.lemmas.List.Edits.{sets};
 ghost use Rattle.octets.specs.Put.{put_end, put_into};

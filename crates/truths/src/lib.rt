@@ -1,4 +1,6 @@
 // True and false as numbers, for C programs (specs/Truths).
+#![tactic(auto)]
+
 ghost use Rattle.std.specs.Prelude.{◌≡◌};
 ghost use Rattle.truths.specs.Truths.{truth, bit};
 
