@@ -18,7 +18,7 @@ pub struct Payload {
 
 // The first count slots hold payloads, oldest first; the others are free.
 #[repr(C)]
-#[derive(Drop)]
+#[derive(Clone, Copy)]
 pub struct Queue {
     pub count: usize,
     pub slots: [Payload; Queue::SLOTS],
