@@ -1,14 +1,13 @@
 -- What owning a queue or a payload tells of its arrays: how many elements they have. Assumes nothing.
 use Prim.Native.Nat.{ℕ, zero, suc, ◌<◌}
 use native.Mathlib.Nat.{not-suc-le-zero, le_of_suc-le-suc}
-use mathlib.Core.Path.{◌≡◌, sym, ◌∙◌}
+use mathlib.Core.Path.{◌≡◌}
 use mathlib.Core.List.{List, [], ◌∷◌}
-use lib.ListN.{length, get_or, length-map}
+use lib.ListN.{length, get_or}
 use mir.Val.{Val}
 use denote.Laws.{Is}
 use denote.Array.{Array, each}
 use denote.Shadow.{shadow}
-use borrow.Author.Rules.{length_unmapped}
 use Rattle.dlc_packet.specs.Packet.{max_payload}
 use Rattle.dlc_queue.specs.declared.Payload.{Payload}
 use Rattle.dlc_queue.specs.declared.Queue.{Queue}
@@ -18,10 +17,10 @@ use Rattle.dlc_queue.specs.contracts.Queue as Q
 use Rattle.dlc_queue.proofs.Short.{none}
 
 pub octets_long : (p : Payload) (vs : List Val) → Is P.the_row p vs → length p.octets ≡ max_payload
-octets_long p vs g = length_unmapped ℕ p.octets max_payload g.1.1.1.0.1.0.1
+octets_long p vs g = g.1.1.1.0.1.0.1
 
 pub slots_long : (q : Queue) (vs : List Val) → Is Q.the_row q vs → length q.slots ≡ slots
-slots_long q vs g = sym (length-map q.slots _) ∙ g.1.1.1.0.1.0.1
+slots_long q vs g = g.1.1.1.0.1.0.1
 
 -- every payload of a list has a whole array
 abbrev pub Long : List Payload → Type 0

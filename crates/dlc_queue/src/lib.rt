@@ -10,7 +10,7 @@ use dlc_packet::{MAX_PACKET, MAX_PAYLOAD};
 
 // A slot: a payload is the first len octets, the others are free.
 #[repr(C)]
-#[derive(Drop)]
+#[derive(Clone, Copy)]
 pub struct Payload {
     pub len: usize,
     pub octets: [u8; MAX_PAYLOAD],
@@ -18,7 +18,7 @@ pub struct Payload {
 
 // The first count slots hold payloads, oldest first; the others are free.
 #[repr(C)]
-#[derive(Drop)]
+#[derive(Clone, Copy)]
 pub struct Queue {
     pub count: usize,
     pub slots: [Payload; Queue::SLOTS],

@@ -3,7 +3,7 @@
 #![tactic(auto)]
 
 // DLIDLE, DLRESET, DLDATA, DLDWAIT
-#[derive(Drop)]
+#[derive(Clone, Copy)]
 pub enum State {
     Idle,
     Reset,

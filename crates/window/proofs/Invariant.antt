@@ -1,6 +1,6 @@
 -- The invariant of two ends: a flow each way, and marks beside each line. Kept by an accepted payload, by "send all" and by a loss; arrivals
 -- are in Receive. Assumes nothing.
-use Prim.Native.Nat.{ℕ, suc, ◌+◌, ◌%◌, ◌<◌}
+use Prim.Native.Nat.{ℕ, suc, ◌%◌, ◌<◌}
 use mathlib.Core.Path.{◌≡◌, refl, sym, ap, subst, ◌∙◌}
 use mathlib.Core.Bool.{Bool, true, false, not}
 use mathlib.Core.Option
