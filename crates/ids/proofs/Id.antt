@@ -1,11 +1,11 @@
 -- Laws of the ID rule at an index of a list. Assumes nothing.
 use mathlib.Core.Path.{◌≡◌, sym, ◌∙◌}
-use mathlib.Core.Bool.{Bool, true, false, cond, not, ◌&&◌}
+use mathlib.Core.Bool.{Bool, true, false, cond, ◌&&◌}
 use mathlib.Core.List.{List, ◌∷◌}
 use Prim.Native.Nat.{ℕ, ◌+◌, ◌-◌, ◌≤◌, ◌<◌}
 use native.Mathlib.Numerals.{add-one}
 use native.Mathlib.Omega.{arith}
-use borrow.Author.Tests.{not-true, not-false, lt-ltb, ne_eqb}
+use borrow.Author.Tests.{lt-ltb, ne_eqb}
 use lib.ListN.{length, get_or, drop, take, drop_of_length-le, length-drop}
 use lib.Seq.{drop-cons, take_all}
 use Rattle.ids.specs.Id.{is_callsign, is_graphic, callsign_length, all_graphic, valid_suffix, valid_id}
@@ -33,15 +33,13 @@ module _ (s : List ℕ) (i : ℕ) where
     callsign_done h = omega (arith, callsign_end h)
 
     module _ (r : Bool) (h : i < length s) (e : r ≡ is_callsign (get_or s i 0)) where
-      pub callsign_stop : not r ≡ true → i ≡ callsign_length s
-      callsign_stop t =
-          let n : r ≡ false = not-true r t in
+      pub callsign_stop : r ≡ false → i ≡ callsign_length s
+      callsign_stop n =
           let z : callsign_length (drop i s) ≡ 0 = cc (callsign_at h) in
           omega arith
 
-      pub callsign_on : not r ≡ false → i + 1 + callsign_length (drop (i + 1) s) ≡ callsign_length s
-      callsign_on t =
-          let y : r ≡ true = not-false r t in
+      pub callsign_on : r ≡ true → i + 1 + callsign_length (drop (i + 1) s) ≡ callsign_length s
+      callsign_on y =
           let z : callsign_length (drop i s) ≡ callsign_length (drop (i + 1) s) + 1 = cc (callsign_at h) in
           omega arith
 
@@ -51,11 +49,11 @@ module _ (s : List ℕ) (i : ℕ) where
     graphic_done h = sym (graphic_end h) ∙ inv
 
     module _ (r : Bool) (h : i < length s) (e : r ≡ is_graphic (get_or s i 0)) where
-      pub graphic_stop : not r ≡ true → false ≡ all_graphic s
-      graphic_stop t = let n : r ≡ false = not-true r t in cc (graphic_at h)
+      pub graphic_stop : r ≡ false → false ≡ all_graphic s
+      graphic_stop n = cc (graphic_at h)
 
-      pub graphic_on : not r ≡ false → all_graphic (drop (i + 1) s) ≡ all_graphic s
-      graphic_on t = let y : r ≡ true = not-false r t in cc (graphic_at h)
+      pub graphic_on : r ≡ true → all_graphic (drop (i + 1) s) ≡ all_graphic s
+      graphic_on y = cc (graphic_at h)
 
 -- the answers of valid_id
 module _ (s : List ℕ) (n : ℕ) (e : n ≡ callsign_length s) where

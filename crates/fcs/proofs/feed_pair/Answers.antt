@@ -1,0 +1,8 @@
+-- `fcs::feed_pair`: the division of two octets.
+use Rattle.std.proofs.Common.{arith}
+use Rattle.fcs.proofs.Words.{pair_shift, pair_fed}
+use Rattle.fcs.proofs.feed_pair.Goals as goal
+
+pub returns : goal.returns
+unfolding pair_shift
+returns c = pair_fed c.args.register c.args.low c.args.high c.pair.result (omega arith) (omega arith) (omega arith) c.pair.ensures.0
