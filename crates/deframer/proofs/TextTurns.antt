@@ -31,9 +31,9 @@ module _ {R X : Type 0} (text : X → R → List ℕ → List ℕ) (tallied : X 
   abbrev pub onwards : declared.State → (xs m : List ℕ) → Texts X → Gathered (State ℕ) (Texts X)
   onwards = turns.onwards make (has_room longest) rule rules same
 
-  has_room : (k : X) (out : List ℕ) (at : ℕ) → at + longest ≤ length out → has_room longest (texts_at k out at) ≡ true
+  has_room_at : (k : X) (out : List ℕ) (at : ℕ) → at + longest ≤ length out → has_room longest (texts_at k out at) ≡ true
   unfolding has_room
-  has_room k out at room = le-leb (at + longest) (length out) room
+  has_room_at k out at room = le-leb (at + longest) (length out) room
 
   no_room : (k : X) (out : List ℕ) (at : ℕ) → length out < at + longest → has_room longest (texts_at k out at) ≡ false
   unfolding has_room
@@ -42,7 +42,7 @@ module _ {R X : Type 0} (text : X → R → List ℕ → List ℕ) (tallied : X 
   -- the loop stands at octet i of the chunk: what is left gives the whole, at its start
   pub start_inv : (s : declared.State) (k : X) (xs m out : List ℕ) → longest ≤ length out
       → text_call text tallied longest (step rules) (view s) k xs m out ≡ later 0 (onwards s xs m (texts_at k out 0))
-  start_inv s k xs m out room = turns.start_inv make (has_room longest) rule rules same s xs m (texts_at k out 0) (has_room k out 0 (omega arith))
+  start_inv s k xs m out room = turns.start_inv make (has_room longest) rule rules same s xs m (texts_at k out 0) (has_room_at k out 0 (omega arith))
 
   -- there is no room for every text any more
   pub turn_full : (whole : Gathered (State ℕ) (Texts X)) (s : declared.State) (xs m : List ℕ) (k : X) (out : List ℕ) (i at : ℕ) → length out < at + longest
@@ -61,7 +61,7 @@ module _ {R X : Type 0} (text : X → R → List ℕ → List ℕ) (tallied : X 
 
   module _ {whole : Gathered (State ℕ) (Texts X)} {s : declared.State} {k : X} {chunk m out : List ℕ} {i at : ℕ} {u : Scanned} {m' : List ℕ} (turn : Turn whole s k chunk m out i at u m') where
     plain : turns.Turn make (has_room longest) rule rules same whole s chunk m (texts_at k out at) i u m'
-    plain = record { within = turn.within; segment = turn.segment; wanted = has_room k out at turn.room; inv = turn.inv; answer = turn.answer; buffer = turn.buffer }
+    plain = record { within = turn.within; segment = turn.segment; wanted = has_room_at k out at turn.room; inv = turn.inv; answer = turn.answer; buffer = turn.buffer }
 
     pub turn_within : i + u.taken ≤ length chunk
     turn_within = turns.turn_within make (has_room longest) rule rules same plain

@@ -24,6 +24,7 @@ pub(crate) fn is_check(kind: u8, check: u16) -> bool
     true
 }
 
+#[tactic(auto, unfolding(crate::specs::Rule::added))]
 pub(crate) fn added(kind: u8, count: usize, check: u16, x: u8) -> u16
     ensures { result ≡ added kind count check x }
 {

@@ -26,7 +26,7 @@ pub const FIRST: u8 = 2;
 // How a line is read. `mask`: what an octet behind the escape is combined with, by exclusive or; 0: there is no mask, and such an
 // octet stands for the one that is escaped so, or for itself. `strict`: whether a pair is bad that stands for no octet that is
 // escaped. `cap`: how many octets of a segment are stored. `check`: the running check.
-#[derive(Drop)]
+#[derive(Clone, Copy)]
 pub struct Rule {
     pub escapes: Escapes,
     pub mask: u8,
@@ -37,7 +37,7 @@ pub struct Rule {
 
 // What a reader holds between two octets: whether a flag has come, an escape waits for its partner, a bad pair came in the segment;
 // the octets of the segment after undoing escapes, cap + 1 for all above, and the running check of them.
-#[derive(Drop)]
+#[derive(Clone, Copy)]
 pub struct State {
     pub synced: bool,
     pub pending: bool,
@@ -64,6 +64,7 @@ pub enum Action {
 }
 
 // Takes a chunk up to the flag that closes a segment. A buffer shorter than the cap: nothing is taken.
+#[tactic(auto, unfolding(crate::specs::Scan::scanned))]
 pub fn scan(rule: Rule, state: State, chunk: &[u8], buffer: &mut [u8]) -> Scanned
     ensures value { result ≡ (scanned rule state chunk.now buffer.old).answer }
     ensures buffer_after { buffer.new ≡ (scanned rule state chunk.now buffer.old).buffer }
@@ -178,6 +179,7 @@ impl Rule {
     }
 
     // The state after it.
+    #[tactic(auto, unfolding(crate::specs::Scan::joined, framing::specs::Step::joined))]
     fn joined(self, s: State, bad: bool, x: u8) -> State
         ensures { result ≡ joined self s bad x }
     {
@@ -216,6 +218,7 @@ impl Rule {
 
     // Whether a state is well formed: no more than one octet past the cap; what can be a check; of no octets no check and no
     // bad pair; before any flag no segment. A state of no octets is looked at first: with short frames most are.
+    #[tactic(auto, unfolding(framing::specs::Step::malformed))]
     pub fn well_formed(self, s: State) -> bool
         ensures { result ≡ not (malformed (rules_of self) (view s)) }
     {
@@ -252,6 +255,7 @@ impl Rule {
     }
 
     // Raw octets that are escaped are skipped, but for the flag and the escape.
+    #[tactic(auto, unfolding(crate::specs::Rule::is_skipped))]
     fn skips(self, x: u8) -> bool
         ensures { result ≡ is_skipped self x }
     {
@@ -266,6 +270,7 @@ impl Rule {
     }
 
     // The octet that one behind the escape stands for.
+    #[tactic(auto, unfolding(crate::specs::Rule::partner_of))]
     fn partner(self, y: u8) -> u8
         ensures { result ≡ partner_of self y }
     {
@@ -281,6 +286,7 @@ impl Rule {
     }
 
     // Whether a bad pair came in the segment, where the last stands behind the escape as y.
+    #[tactic(auto, unfolding(crate::specs::Rule::is_bad_pair))]
     fn bad_after(self, bad: bool, y: u8) -> bool
         ensures { result ≡ (bad || is_bad_pair self y) }
     {

@@ -18,6 +18,7 @@ pub(crate) fn by_fields(s: State) -> State
 }
 
 // The state behind an escape, whose partner did not come yet.
+#[tactic(auto, unfolding(crate::specs::Scan::awaiting))]
 pub(crate) fn awaiting(s: State) -> State
     ensures { result ≡ awaiting s }
 {

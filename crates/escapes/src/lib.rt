@@ -11,7 +11,7 @@ const BLOCK: usize = 16;
 
 // The flag and the escape, which are escaped, two more octets, whether these are escaped too, and what stands behind the escape for
 // each.
-#[derive(Drop)]
+#[derive(Clone, Copy)]
 pub struct Escapes {
     pub flag: u8,
     pub escape: u8,
@@ -37,6 +37,7 @@ impl Escapes {
     }
 
     // Whether an octet behind the escape stands for one that is escaped, and for which.
+    #[tactic(auto, unfolding(crate::specs::Escapes::is_partner))]
     pub fn is_partner(self, y: u8) -> bool
         ensures { result ≡ is_partner self y }
     {
@@ -45,6 +46,7 @@ impl Escapes {
                 | (self.others & ((y == self.behind_third) | (y == self.behind_fourth))))
     }
 
+    #[tactic(auto, unfolding(crate::specs::Escapes::stands_for))]
     pub fn stands_for(self, y: u8) -> u8
         ensures { result ≡ stands_for self y }
     {

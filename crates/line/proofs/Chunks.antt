@@ -1,6 +1,6 @@
 -- The cutting law: however a line is cut into chunks, a caller gets the reports, the state and the buffer of the whole line.
 -- For any rule for one octet, and any call that answers as `scan` does on good states and buffers. Assumes nothing.
-use Prim.Native.Nat.{ℕ, zero, suc, ◌+◌, ◌<◌}
+use Prim.Native.Nat.{ℕ, zero, suc, ◌<◌}
 use mathlib.Core.List.{List, [], ◌∷◌, ◌++◌, flatten}
 use mathlib.Core.Option.{Option, none, some}
 use mathlib.Core.Path.{◌≡◌, refl, sym, ap, ◌∙◌}

@@ -91,15 +91,15 @@ module _ {S R X : Type 0} (text : X → R → List ℕ → List ℕ) (tallied : 
     abbrev start : Texts X
     start = record { tally = k; out = out; behind = 0 }
 
-    has_room : has_room longest start ≡ true
+    start_room : has_room longest start ≡ true
     unfolding has_room
-    has_room = le-leb (0 + longest) (length out) (omega arith)
+    start_room = le-leb (0 + longest) (length out) (omega arith)
 
     call_partly : Partly make (has_room longest) f s xs m start call
     call_partly = gather_partly make (has_room longest) f xs s m start
 
     pub call_within : Within (length out) call.state call.buffer call.made
-    call_within = gather_within (length out) xs s m start has_room (record { good = good; long = refl; within = omega arith })
+    call_within = gather_within (length out) xs s m start start_room (record { good = good; long = refl; within = omega arith })
 
     call_tally : call.made.tally ≡ tally_of text tallied k call_partly.first
     call_tally = ap (λ (c : Texts X). c.tally) (call_partly.made ∙ make_all-texts text tallied call_partly.first k out 0)

@@ -72,6 +72,7 @@ pub const USED_UP: u8 = 15;
 pub const BAD_PAIR: u8 = 16;
 
 // The octets that a level escapes.
+#[tactic(auto, unfolding(crate::specs::Escape::escapes_of))]
 pub fn escapes(level: u8) -> Escapes
     ensures { result ≡ escapes_of level }
 {
@@ -96,6 +97,7 @@ fn wrapping_neg_u8(x: u8) -> u8
 }
 
 // The check octet of a frame's data: the two's complement of their sum modulo 256.
+#[tactic(auto, unfolding(crate::specs::Check::check_octet))]
 pub fn check_octet(octets: &[u8]) -> u8
     ensures { result ≡ check_octet octets.now }
 {
@@ -104,6 +106,7 @@ pub fn check_octet(octets: &[u8]) -> u8
 
 // The check octets of a frame's data in two places, of which the first `check_size` are meant; the other is 0. Of the check sequence the
 // low octet comes first.
+#[tactic(auto, unfolding(crate::specs::Check::check_pair))]
 pub fn check_octets(kind: u8, octets: &[u8]) -> [u8; 2]
     ensures { result ≡ check_pair kind octets.now }
 {
@@ -125,6 +128,7 @@ pub fn check_size(kind: u8) -> usize
 }
 
 // The most octets of a segment that is a frame, escapes undone: data and check.
+#[tactic(auto, using(crate::proofs::Check::check_size_bounds))]
 pub fn max_segment(kind: u8) -> usize
     ensures { result ≡ max_segment_of kind }
 {
