@@ -160,8 +160,8 @@ module _ (most flag : ℕ) where
       go false e = count_all-flagged l c (flags_some flag l (pos_of_ne-zero (eqb-false _ _ e)))
 
   -- as the code goes: p are the chunk's parts
-  pub parts_added : (l : List ℕ) (c : Octets) (p : Parts) (r : Octets) → p ≡ parts_of flag l → r ≡ parts_added most c p → r ≡ count_all most flag c l
-  parts_added l c p r pe re = re ∙ ap (parts_added most c) pe ∙ sym (count_all-parts l c)
+  pub parts_added_lem : (l : List ℕ) (c : Octets) (p : Parts) (r : Octets) → p ≡ parts_of flag l → r ≡ parts_added most c p → r ≡ count_all most flag c l
+  parts_added_lem l c p r pe re = re ∙ ap (parts_added most c) pe ∙ sym (count_all-parts l c)
 
 -- ---- as the code goes, on the chunk l: n is how many flags it has, and f and a how many octets stand before the first and after the last
 module _ (flag : ℕ) (l : List ℕ) (n : ℕ) (ne : n ≡ flags flag l) where

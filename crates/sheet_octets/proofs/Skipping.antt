@@ -8,7 +8,7 @@ use borrow.Author.Tests.{ne_eqb, eqb-true}
 use lib.Dec.{eqb}
 use lib.ListN.{length, take, drop, length-drop}
 use lib.Seq.{take_all}
-use Rattle.capture.proofs.Counting.{parts_added}
+use Rattle.capture.proofs.Counting.{parts_added_lem}
 use Rattle.capture.proofs.Flags.{parts_add_up}
 use Rattle.capture.specs.Octets.{parts_of, parts_added}
 use Rattle.capture.specs.Whole.{before, flags, between, after}
@@ -109,6 +109,6 @@ module _ (level : ℕ) (l : List ℕ) where
       pub raw_added : (r : RawOctets) (k s : Octets) → k ≡ parts_added too_large r.kept left → s ≡ parts_added too_large r.skipped q
           → ◌≡◌ {A = RawOctets} (record { kept = k; skipped = s }) (raw_all level r l)
       raw_added r k s ke se = λ i. record {
-        kept = parts_added too_large flag (unskipped (rules level sum_kind) l) r.kept left k left_is ke i;
-        skipped = parts_added too_large flag (flow_of level l) r.skipped q s qe se i;
+        kept = parts_added_lem too_large flag (unskipped (rules level sum_kind) l) r.kept left k left_is ke i;
+        skipped = parts_added_lem too_large flag (flow_of level l) r.skipped q s qe se i;
       }
