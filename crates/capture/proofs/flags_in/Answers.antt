@@ -1,5 +1,5 @@
 -- `capture::flags_in` meets its contract: those of the parts before octet i, and those from there on. Assumes nothing.
-use Rattle.std.proofs.Common.{◌+◌, ◌-◌, ◌≤◌, ◌≡◌, zero-add, arith, length, drop}
+use Rattle.std.proofs.Common.{◌+◌, ◌≤◌, ◌≡◌, zero-add, arith, length, drop}
 use Rattle.capture.proofs.Flags.{flags_end, flags_part}
 use Rattle.capture.specs.Whole.{flags}
 use Rattle.capture.proofs.flags_in.Goals as goal

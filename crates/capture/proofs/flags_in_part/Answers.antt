@@ -1,5 +1,5 @@
 -- `capture::flags_in_part` meets its contract: those before octet i, and those from there on. Assumes nothing.
-use Rattle.std.proofs.Common.{◌+◌, ◌-◌, ◌≤◌, ◌≡◌, zero-add, arith, drop}
+use Rattle.std.proofs.Common.{◌+◌, ◌≤◌, ◌≡◌, zero-add, arith, drop}
 use Rattle.capture.proofs.Flags.{flags_end, flags_turn}
 use Rattle.capture.specs.Whole.{flags}
 use Rattle.capture.proofs.flags_in_part.Goals as goal

@@ -1,5 +1,5 @@
 -- `capture::octets_after` meets its contract: the last n octets have no flag. Assumes nothing.
-use Rattle.std.proofs.Common.{◌-◌, ◌≤◌, arith, eq-eqb, ne_eqb}
+use Rattle.std.proofs.Common.{arith, eq-eqb, ne_eqb}
 use Rattle.capture.proofs.Flags.{bare_none, bare_flag, bare_other, bare_all}
 use Rattle.capture.proofs.octets_after.Goals as goal
 

@@ -1,7 +1,6 @@
 -- `capture::octets_before` meets its contract: i octets before any flag, and those that are left before the first. Assumes nothing.
-use Rattle.std.proofs.Common.{◌+◌, ◌-◌, ◌≤◌, ◌≡◌, zero-add, arith, eq-eqb, ne_eqb}
+use Rattle.std.proofs.Common.{zero-add, arith, eq-eqb, ne_eqb}
 use Rattle.capture.proofs.Flags.{before_end, before_at, before-past}
-use Rattle.capture.specs.Whole.{before}
 use Rattle.capture.proofs.octets_before.Goals as goal
 
 pub loop-i-init : goal.loop-i-init
