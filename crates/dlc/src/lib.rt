@@ -22,7 +22,7 @@ mod form;
 mod rows;
 
 // A link; any value of this type may be handed to an event, which answers BAD_LINK where it is none.
-#[derive(Drop)]
+#[derive(Clone, Copy)]
 pub struct Link {
     pub state: State,
     pub queue: Queue,
