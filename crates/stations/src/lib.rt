@@ -10,7 +10,7 @@ pub const FIELDS_AT: usize = 5;
 
 // The next station: its number with the source as 1, the index of its length octet in the station fields, and octet 0 as it is written for it.
 // Number and index are 0 where there is none.
-#[derive(Drop)]
+#[derive(Clone, Copy)]
 pub struct Next {
     pub number: usize,
     pub index: usize,
@@ -18,7 +18,7 @@ pub struct Next {
 }
 
 // The station fields: their length with the closing 0 (0 where they are malformed), the number of IDs, the next station.
-#[derive(Drop)]
+#[derive(Clone, Copy)]
 pub struct Stations {
     pub end: usize,
     pub count: usize,
