@@ -15,7 +15,7 @@ use deframer::{Rule, State};
 use qaft_report::{Outcome, Report};
 
 #[repr(C)]
-#[derive(Drop)]
+#[derive(Clone, Copy)]
 pub struct Reader {
     pub level: u8,
     pub check_kind: u8,
@@ -164,6 +164,7 @@ impl Reader {
 
 // How the deframer is to read at a level, with the check of a kind: raw octets that the level escapes are its flag, its escape, and
 // flow control, which is skipped; a pair that stands for no such octet is bad.
+#[tactic(auto, using(qaft::proofs::Check::check_size_bounds))]
 pub fn rule(level: u8, check_kind: u8) -> Rule
     ensures { result ≡ rule level check_kind }
 {
@@ -207,6 +208,7 @@ fn good(kind: u8) -> u16
 }
 
 // The verdict on the segment in which a call ended.
+#[tactic(auto, unfolding(crate::specs::Scanned::verdict_of))]
 fn judge(kind: u8, closed: bool, s: State) -> Verdict
     ensures { result ≡ verdict_of kind closed s }
 {
@@ -217,6 +219,7 @@ fn judge(kind: u8, closed: bool, s: State) -> Verdict
 }
 
 // What a closed segment is reported as, by the state in which the flag found it; first that applies.
+#[tactic(auto, using(qaft::proofs::Check::check_size_bounds), unfolding(qaft_rules::specs::Rules::verdict))]
 pub fn report_on(check_kind: u8, s: State) -> Report
     ensures { result ≡ verdict check_kind s.pending s.bad s.count s.check }
 {
