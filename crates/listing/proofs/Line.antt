@@ -1,13 +1,10 @@
 -- Laws of the lines of a listing: their lengths, and the pieces of a line put down one after another. Assumes nothing.
 use Prim.Native.Nat.{ℕ, ◌+◌, ◌*◌, ◌-◌, ◌≤◌, ◌<◌}
-use mathlib.Core.List.{List, [], ◌∷◌, ◌++◌}
+use mathlib.Core.List.{List, [], ◌++◌}
 use mathlib.Core.Path.{◌≡◌, refl, sym, ap, ap₂, ◌∙◌, subst}
 use native.Mathlib.Nat.{add-zero}
 use native.Mathlib.Omega.{arith}
-use types.Run.{OneOf, miss}
-use denote.Enum.Declared.{tag_of}
 use lib.ListN.{length, take, drop, length-append}
-use Rattle.listing.specs.contracts.Entry as entries
 use Rattle.listing.specs.Line.{name, details, report_line, line_room}
 use Rattle.listing.specs.Names.{names, name_start, name_end}
 use Rattle.listing.specs.declared.Entry.{Entry}
@@ -135,9 +132,9 @@ module _ (p : Entry) (n : ℕ) (told : p ≡ Frame n) (d m m₁ m₂ m₃ m₄ :
   details_placed = subst (λ (p : Entry). Placed m i (details p d) m₄ r) (sym told) frame_placed
 
 -- a report that is no frame has nothing behind its name
-pub no_details : (p : Entry) (d : List ℕ) → OneOf (1 ∷ 2 ∷ 3 ∷ 4 ∷ 5 ∷ 6 ∷ 7 ∷ []) (tag_of entries.the_type p) → details p d ≡ []
+pub no_details : (p : Entry) (d : List ℕ) → ((n : ℕ) → p ≡ Frame n → ⊥) → details p d ≡ []
 unfolding details
-no_details (Frame n) d k = absurd (miss (1 ∷ 2 ∷ 3 ∷ 4 ∷ 5 ∷ 6 ∷ 7 ∷ []) 0 tt k)
+no_details (Frame n) d k = absurd (k n refl)
 no_details Aborted d k = refl
 no_details Long d k = refl
 no_details Short d k = refl

@@ -11,7 +11,7 @@ ghost use Rattle.listing.specs.Names.{name_start, name_end};
 ghost use Rattle.listing.specs.Line.{name, details, report_line, line_room};
 
 // What a listing calls a report, of either framing; a frame with the number of its data octets.
-#[derive(Drop)]
+#[derive(Clone, Copy)]
 pub enum Entry {
     Frame(usize),
     Aborted,
