@@ -96,16 +96,16 @@ module _ (edition : Edition) where
     abbrev payload_effect : Bool → Bool → Bool → Model → Octets → Effect
     payload_effect short long full m p = cond short (refuse m reply_too_small) (cond long (refuse m payload_too_long) (cond full (refuse m queue_full) (queued m p)))
 
-    is_open : (q : Packets) → is_open (state_of q) ≡ true
-    is_open [] = refl
-    is_open (p ∷ q) = refl
+    is_open_lem : (q : Packets) → is_open (state_of q) ≡ true
+    is_open_lem [] = refl
+    is_open_lem (p ∷ q) = refl
 
     payload_of-open : (a : Peer) (p : Octets) (n : ℕ)
         → payload_of limit (model_of a) p n ≡ payload_effect (ltb n (limit * max_packet)) (ltb max_payload (length p)) (leb limit (length a.sender.queue)) (model_of a) p
     unfolding payload_of
     payload_of-open a p n = λ i. cond (ltb n (limit * max_packet)) (refuse (model_of a) reply_too_small)
         (cond (ltb max_payload (length p)) (refuse (model_of a) payload_too_long)
-        (cond (not (is_open a.sender.queue i)) (refuse (model_of a) not_open)
+        (cond (not (is_open_lem a.sender.queue i)) (refuse (model_of a) not_open)
         (cond (leb limit (length a.sender.queue)) (refuse (model_of a) queue_full) (queued (model_of a) p))))
 
     state_snoc : (q : Packets) (p : Octets) → state_of (p ∷ []) ≡ state_of (q ++ (p ∷ []))
@@ -152,7 +152,7 @@ module _ (edition : Edition) where
         → arrival_of limit (model_of a) (encode (data_pdu x p)) n ≡ data_effect (ltb n (limit * max_packet)) (eqb x a.receiver.expected) (model_of a)
     unfolding arrival_of
     arrival_of-data a x p n h =
-        ap (cond (ltb n (limit * max_packet)) (refuse (model_of a) reply_too_small)) (ap (packet_step (model_of a)) (kind_of_data x p h) ∙ data_open (model_of a) (state_of a.sender.queue) x (is_open a.sender.queue))
+        ap (cond (ltb n (limit * max_packet)) (refuse (model_of a) reply_too_small)) (ap (packet_step (model_of a)) (kind_of_data x p h) ∙ data_open (model_of a) (state_of a.sender.queue) x (is_open_lem a.sender.queue))
 
     data_becomes : (a : Peer) → Fits (model_of a) → (x : ℕ) (p : Octets) (short hit : Bool)
         → Arrival model_of (data_pdu x p) (data_effect short hit (model_of a)) a (cond (not short) (take_data (rules edition limit) hit p a) a)

@@ -23,7 +23,7 @@ pub const STATE_DATA: u8 = 2;
 pub const STATE_WAIT: u8 = 3;
 
 #[repr(C)]
-#[derive(Drop)]
+#[derive(Clone, Copy)]
 pub struct PlainLink {
     pub state: u8,
     pub queue: Queue,

@@ -76,8 +76,8 @@ implied : (a b : Bool) → (not a || b) ≡ true → a ≡ true → b ≡ true
 implied true b e h = e
 implied false b e h = absurd (false≢true h)
 
-one_way : (l : Bool) (a b : End Model) → one_way l a b ≡ true → {P : Type 0} → (P → l ≡ true) → OneWay a b P
-one_way l a b e f =
+one_way_lem : (l : Bool) (a b : End Model) → one_way l a b ≡ true → {P : Type 0} → (P → l ≡ true) → OneWay a b P
+one_way_lem l a b e f =
     let x = and_both (begins b.delivered a.accepted) _ e in
     let y = and_both (not l || leb (data_sent a) (length a.accepted + slots * a.lost)) (without bad_link a.answers) x.1 in
     record {
@@ -173,7 +173,7 @@ next_searched n l r w e d c = every_true (deeper (searched n) l r w d) (at_side 
 both_ways : (l r : Bool) (w : World Model) → kept l r w ≡ true → {P Q : Type 0} → (P → l ≡ true) → (Q → r ≡ true) → BothWays w P Q
 both_ways l r w e f g =
     let b = and_both (one_way l w.left w.right) (one_way r w.right w.left) e in
-    record { left_to_right = one_way l w.left w.right b.0 f; right_to_left = one_way r w.right w.left b.1 g }
+    record { left_to_right = one_way_lem l w.left w.right b.0 f; right_to_left = one_way_lem r w.right w.left b.1 g }
 
 -- a premise that says more
 weaker : {w : World Model} {P Q P' Q' : Type 0} → (P' → P) → (Q' → Q) → BothWays w P Q → BothWays w P' Q'

@@ -1,7 +1,7 @@
 -- Why sixteen slots are too many: the step table with sixteen places, by computation. docs/SIXTEEN.md tells the run. Assumes nothing.
 --
 -- InOrder holds of the table with every limit below the modulus (`in_order`, dlc_pair/proofs/Demand3), and with no other (`out_of_order`).
-use Prim.Native.Nat.{ℕ, ◌+◌, ◌-◌, ◌*◌, ◌%◌, ◌≤◌}
+use Prim.Native.Nat.{ℕ, ◌-◌, ◌*◌, ◌%◌, ◌≤◌}
 use native.Mathlib.Omega.{arith}
 use mathlib.Core.Path.{◌≡◌, refl, ap, subst}
 use mathlib.Core.Bool.{true}
