@@ -57,7 +57,7 @@ pub const OUT_TOO_SMALL: u8 = 41;
 
 // A part of a frame.
 #[repr(C)]
-#[derive(Drop)]
+#[derive(Clone, Copy)]
 pub struct Part {
     pub place: usize,
     pub size: usize,

@@ -17,7 +17,7 @@ use stations::Field;
 const FIRST_NEXT: usize = stations::FIELDS_AT + 2;
 
 // Who a frame is for next: all stations, or the one whose field, its length octet too, is that part of the frame. Or why that can't be said.
-#[derive(Drop)]
+#[derive(Clone, Copy)]
 pub enum Receiver {
     Refused(u8),
     Broadcast,

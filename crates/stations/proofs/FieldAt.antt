@@ -4,12 +4,9 @@ use mathlib.Core.Bool.{Bool, true, false, cond, ◌&&◌}
 use mathlib.Core.List.{List, [], ◌∷◌}
 use Prim.Native.Nat.{ℕ, ◌+◌, ◌≤◌, ◌<◌}
 use native.Mathlib.Omega.{arith}
-use types.Run.{OneOf, miss}
-use denote.Enum.Declared.{tag_of}
 use borrow.Author.Tests.{le-leb, leb-true, eqb-true}
 use lib.Dec.{leb, ltb, eqb}
 use lib.ListN.{length, get_or, take, drop}
-use Rattle.stations.specs.contracts.Field as fields
 use Rattle.common.proofs.Bools.{and_both}
 use Rattle.ids.specs.Id.{valid_id, callsign_length}
 use Rattle.stations.specs.FieldAt.{is_closing, is_id_at, field_at}
@@ -49,8 +46,8 @@ module _ (s : List ℕ) (p : ℕ) where
   told v e = subst Told (sym e) field_told
 
   -- an answer that is no ID
-  pub told_other : (v : Field) → v ≡ field_at s p → OneOf (0 ∷ 2 ∷ []) (tag_of fields.the_type v) → p + n < length s → valid_id id ≡ false
-  told_other (Id q) e k = absurd (miss (0 ∷ 2 ∷ []) 1 tt k)
+  pub told_other : (v : Field) → v ≡ field_at s p → ((q : ℕ) → v ≡ Id q → ⊥) → p + n < length s → valid_id id ≡ false
+  told_other (Id q) e k = absurd (k q refl)
   told_other Closing e k = told Closing e
   told_other Malformed e k = told Malformed e
 
