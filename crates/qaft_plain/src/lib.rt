@@ -13,7 +13,7 @@ use qaft_report::Outcome;
 
 // In this order the state has sixteen octets, which C hands over in registers.
 #[repr(C)]
-#[derive(Drop)]
+#[derive(Clone, Copy)]
 pub struct PlainReader {
     pub level: u8,
     pub check_kind: u8,

@@ -6,7 +6,7 @@ ghost use Rattle.std.specs.Prelude.{◌≡◌};
 ghost use Rattle.qaft_report.specs.Answer.{report_number, number, report_length, data_length, shown};
 
 // What a closed segment is reported as; a frame has its number of data octets.
-#[derive(Drop)]
+#[derive(Clone, Copy)]
 pub enum Report {
     Frame(usize),
     Aborted,
@@ -17,7 +17,7 @@ pub enum Report {
 }
 
 // What a call comes to: a refusal by its number, a report, or a chunk used up without one.
-#[derive(Drop)]
+#[derive(Clone, Copy)]
 pub enum Outcome {
     Refused(u8),
     Reported(Report),
