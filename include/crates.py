@@ -27,21 +27,20 @@ def constant(crate, name):
     owner, _, name = name.rpartition("::")
     if (TOP / "crates" / owner / "src").is_dir() and owner:
         return constant(owner, name)
-    if m := re.search(rf"^use (?!crate::)(\w+)::{owner or name};$", text, re.M):
+    if m := re.search(rf"^use (?!crate::)(\w+)::(?:{owner or name}|\{{[^}}]*\b{owner or name}\b[^}}]*\}});$", text, re.M):
         return constant(m.group(1), name)
     if m := re.search(rf"^ *(?:pub )?const {name}: \w+ = (.*);$", text, re.M):
         return value(m.group(1), lambda w: constant(crate, w))
     raise Wrong(f"no constant {name} in crates/{crate}/src")
 
 
-def camel(name):
-    first, *rest = name.lower().split("_")
-    return first + "".join(w.capitalize() for w in rest)
+def snake(name):
+    return name.lower()
 
 
 def by_kind(file, expression, kind):
     """An expression that speaks of the check `kind`, with the name of one in its place: what the kinds differ in, and definitions that take it."""
-    expression = re.sub(r"\bbyKind kind (\w+) (\w+)", r"\1" if kind == "sumKind" else r"\2", expression)
+    expression = re.sub(r"\bby_kind kind (\w+) (\w+)", r"\1" if kind == "sum_kind" else r"\2", expression)
     return taking_kind(file, expression, "kind", kind)
 
 
@@ -57,9 +56,9 @@ def definition(file, name):
     if kind and (m := re.search(rf"^{name} kind = (.*)$", text, re.M)):
         return value(by_kind(file, m.group(1), kind), lambda w: definition(file, w))
     if m := re.search(rf"^{name} = (.*)$", text, re.M):
-        return value(taking_kind(file, m.group(1), "sumKind", "sumKind"), lambda w: definition(file, w))
+        return value(taking_kind(file, m.group(1), "sum_kind", "sum_kind"), lambda w: definition(file, w))
     crate = "|".join(p.name for p in (TOP / "crates").iterdir())
-    if m := re.search(rf"^use Rattle·({crate})(?:·specs)?\.specs(?:\.specs)?\.(\w+)\.\{{[^}}]*\b{name}\b", text, re.M):
+    if m := re.search(rf"^use Rattle\.({crate})\.specs\.(\w+)\.\{{[^}}]*\b{name}\b", text, re.M):
         return definition(f"{m.group(1)}/specs/{m.group(2)}", name)
     raise Wrong(f"no definition {name} in crates/{file}.antt")
 
@@ -71,11 +70,11 @@ def defined(file):
 
 def number(crate, place, name):
     """A number that code and definitions say alike; either may be None where it is said once. The definitions' place is a file
-    and, behind a dot, the name there where it is not the code's in camelCase."""
+    and, behind a dot, the name there where it is not the code's in snake case."""
     said = [constant(crate, name)] if crate else []
     if place:
         file, _, other = place.partition(".")
-        said.append(definition(file, other or camel(name)))
+        said.append(definition(file, other or snake(name)))
     if len(set(said)) != 1:
         raise Wrong(f"{name}: {said[0]} in crates/{crate}, {said[1]} in crates/{place.split('.')[0]}.antt")
     return said[0]

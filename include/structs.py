@@ -58,7 +58,7 @@ int main(void)
 def fields(struct, names):
     """The fields of a crate's struct as C has them: (type, name, how many or None), by the names given for some."""
     crate, name = struct.split("::")
-    m = re.search(rf"^#\[repr\(C\)\]\npub struct {name} \{{\n(.*?)^\}}", source(crate), re.M | re.S)
+    m = re.search(rf"^#\[repr\(C\)\]\n(?:#\[derive\([^\n]*\)\]\n)?pub struct {name} \{{\n(.*?)^\}}", source(crate), re.M | re.S)
     if not m:
         raise Wrong(f"no #[repr(C)] struct {struct}")
     found = []
@@ -74,7 +74,7 @@ def c_type(kind, crate):
     if kind in C_TYPES:
         return C_TYPES[kind]
     if "::" not in kind:
-        taken = re.search(rf"^use (\w+)::{kind};$", source(crate), re.M)
+        taken = re.search(rf"^use (\w+)::(?:{kind}|\{{[^}}]*\b{kind}\b[^}}]*\}});$", source(crate), re.M)
         kind = f"{taken.group(1) if taken else crate}::{kind}"
     for name, structs, _ in STRUCTS:
         if kind in structs:

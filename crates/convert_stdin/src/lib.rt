@@ -8,12 +8,10 @@ ghost use Rattle.qaft.specs.Limits.{max_level};
 ghost use Rattle.qaft.specs.Answers.{bad_level, done};
 
 use converter::{Converter, Tally};
+use std::io::{Read, Write};
 
-const IN: i32 = 0;
-
-const OUT: i32 = 1;
-
-const ERR: i32 = 2;
+// So many octets are read, and put together for a write, at a time.
+const CHUNK: usize = 65_536;
 
 // The line of counts has room here: three numbers of 20 digits, and 24 octets beside them.
 const COUNTS: usize = 84;
@@ -25,27 +23,33 @@ enum Turn {
 }
 
 // Converts standard input to its end. A level that is none is refused before anything is read or written.
-pub fn convert(to_kiss: bool, level: u8) -> u8
+pub fn convert(rt: &HostRuntime, to_kiss: bool, level: u8) -> u8
     ensures { result ≡ cond (ltb max_level level) bad_level done }
 {
     if qaft::MAX_LEVEL < level {
         return qaft::BAD_LEVEL;
     }
-    let mut input = io::large_buffer();
+    let mut input = [0u8; CHUNK];
     let mut buffer = [0u8; qaft::MAX_SEGMENT];
-    let mut out = io::large_buffer();
+    let mut out = [0u8; CHUNK];
     let c = Converter::new(to_kiss, level);
-    convert_chunks(c, &mut input, &mut buffer, &mut out);
+    convert_chunks(rt, c, &mut input, &mut buffer, &mut out);
     qaft::DONE
 }
 
 // Chunk after chunk, until there is no more.
-fn convert_chunks(c: Converter, input: &mut [u8], buffer: &mut [u8], out: &mut [u8]) {
+fn convert_chunks(
+    rt: &HostRuntime,
+    c: Converter,
+    input: &mut [u8],
+    buffer: &mut [u8],
+    out: &mut [u8],
+) {
     let mut s = c;
     let mut turns = u64::MAX;
     while 0 < turns {
         turns -= 1;
-        let turn = convert_next(s, input, buffer, out);
+        let turn = convert_next(rt, s, input, buffer, out);
         let Turn::More(next) = turn else {
             return;
         };
@@ -54,32 +58,45 @@ fn convert_chunks(c: Converter, input: &mut [u8], buffer: &mut [u8], out: &mut [
 }
 
 // The next chunk, if there is one; else the counts. A read that fails ends the capture too, with a line of its own before them.
-fn convert_next(c: Converter, input: &mut [u8], buffer: &mut [u8], out: &mut [u8]) -> Turn {
-    let got = libc::read(IN, input);
-    if got < 0 {
-        say(c.to_kiss, b": standard input can't be read\n");
-        say_counts(c.tally);
-        return Turn::Done;
+fn convert_next(
+    rt: &HostRuntime,
+    c: Converter,
+    input: &mut [u8],
+    buffer: &mut [u8],
+    out: &mut [u8],
+) -> Turn {
+    let mut stdin = rt.stdin();
+    match stdin.read(input) {
+        Ok(0) => {
+            say_counts(rt, c.tally);
+            Turn::Done
+        }
+        Ok(n) => convert_chunk(rt, c, &input[..n], buffer, out),
+        Err(_) => {
+            say(rt, c.to_kiss, b": standard input can't be read\n");
+            say_counts(rt, c.tally);
+            Turn::Done
+        }
     }
-    if got == 0 {
-        say_counts(c.tally);
-        return Turn::Done;
-    }
-    let n = io::count(got, input);
-    convert_chunk(c, &input[..n], buffer, out)
 }
 
 // The frames of one chunk: where they fill the out buffer they are written, and the rest of the chunk goes into the next call.
 // A write that fails ends all, without counts: nobody knows how many of these frames were written.
-fn convert_chunk(c: Converter, chunk: &[u8], buffer: &mut [u8], out: &mut [u8]) -> Turn {
+fn convert_chunk(
+    rt: &HostRuntime,
+    c: Converter,
+    chunk: &[u8],
+    buffer: &mut [u8],
+    out: &mut [u8],
+) -> Turn {
     let mut s = c;
     let mut i = 0;
     while i < chunk.len() {
         let a = s.convert(&chunk[i..], buffer, out);
         s = a.converter;
         i += a.taken;
-        if !write(OUT, out, a.length) {
-            say(c.to_kiss, b": standard output can't be written\n");
+        if !write(&mut rt.stdout(), out, a.length) {
+            say(rt, c.to_kiss, b": standard output can't be written\n");
             return Turn::Done;
         }
         // a refusal, which these buffers are too long for
@@ -91,28 +108,34 @@ fn convert_chunk(c: Converter, chunk: &[u8], buffer: &mut [u8], out: &mut [u8]) 
 }
 
 // The first n octets; whether they were written.
-fn write(to: i32, octets: &[u8], n: usize) -> bool {
+fn write<W: Write>(to: &mut W, octets: &[u8], n: usize) -> bool {
     if n <= octets.len() {
-        return io::write_all(to, &octets[..n]);
+        return write_all(to, &octets[..n]);
     }
     false
 }
 
+// Whether all of it was written.
+fn write_all<W: Write>(to: &mut W, octets: &[u8]) -> bool {
+    to.write_all(octets).is_ok()
+}
+
 // A line on standard error, with the program's name before it.
-fn say(to_kiss: bool, line: &[u8]) {
+fn say(rt: &HostRuntime, to_kiss: bool, line: &[u8]) {
+    let mut stderr = rt.stderr();
     if to_kiss {
-        io::write_all(ERR, b"qaft_to_kiss");
+        write_all(&mut stderr, b"qaft_to_kiss");
     } else {
-        io::write_all(ERR, b"kiss_to_qaft");
+        write_all(&mut stderr, b"kiss_to_qaft");
     }
-    io::write_all(ERR, line);
+    write_all(&mut stderr, line);
 }
 
 // The counts on standard error, in one write: frames written, frames of another port or command, other reports.
-fn say_counts(t: Tally) {
+fn say_counts(rt: &HostRuntime, t: Tally) {
     let mut line = [0u8; COUNTS];
     let n = put_counts(t, &mut line);
-    write(ERR, &line, n);
+    write(&mut rt.stderr(), &line, n);
 }
 
 fn put_counts(t: Tally, line: &mut [u8]) -> usize {

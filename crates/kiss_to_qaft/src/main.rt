@@ -1,6 +1,6 @@
 // Converts a KISS capture from standard input to QAFT at level 0.
 #![tactic(auto)]
 
-fn main() {
-    convert_stdin::convert(false, 0);
+fn main(rt: HostRuntime) {
+    convert_stdin::convert(&rt, false, 0);
 }

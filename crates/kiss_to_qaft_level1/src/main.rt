@@ -1,6 +1,6 @@
 // Converts a KISS capture from standard input to QAFT at level 1.
 #![tactic(auto)]
 
-fn main() {
-    convert_stdin::convert(false, 1);
+fn main(rt: HostRuntime) {
+    convert_stdin::convert(&rt, false, 1);
 }

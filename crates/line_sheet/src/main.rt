@@ -11,6 +11,7 @@ ghost use Rattle.numerals.specs.Number.{typed_of};
 use numerals::Typed;
 use reading::Capture;
 use sheet::Tally;
+use std::env::{Env, FillError};
 
 mod print;
 mod reading;
@@ -20,6 +21,9 @@ mod say;
 const LEVEL: usize = 1;
 
 const PAIRS: usize = 2;
+
+// An argument has at most so many octets, as any file's name has.
+const ARGUMENT: usize = 4096;
 
 // The records of all lines.
 #[derive(Drop)]
@@ -33,25 +37,34 @@ enum Level {
     None,
 }
 
-fn main() {
-    let mut word = io::buffer();
-    let level = typed_level(&mut word);
+fn main(rt: HostRuntime) {
+    let mut word = [0u8; ARGUMENT];
+    let level = typed_level(&rt, &mut word);
     let Level::Is(level) = level else {
-        say::bad_level();
+        say::bad_level(&rt);
         return;
     };
-    let count = os::arg_count();
-    let mut name = io::buffer();
-    print::print(with_pairs(level, count, &mut word, &mut name));
+    let count = arg_count(&rt, &mut word);
+    let mut name = [0u8; ARGUMENT];
+    print::print(&rt, with_pairs(&rt, level, count, &mut word, &mut name));
+}
+
+// How many arguments there are, the program's name among them.
+fn arg_count(rt: &HostRuntime, word: &mut [u8]) -> usize {
+    for at in 0..usize::MAX {
+        if let Err(FillError::NotPresent) = rt.arg(at, word) {
+            return at;
+        }
+    }
+    usize::MAX
 }
 
 // The level that the first argument is. One that is missing or longer than the buffer is none.
-fn typed_level(word: &mut [u8]) -> Level {
-    let n = os::arg(LEVEL, word);
-    if os::errno() != 0 {
-        return Level::None;
+fn typed_level(rt: &HostRuntime, word: &mut [u8]) -> Level {
+    match rt.arg(LEVEL, word) {
+        Ok(n) => level_of(numerals::parse(&word[..n])),
+        Err(_) => Level::None,
     }
-    level_of(numerals::parse(&word[..n]))
 }
 
 fn level_of(typed: Typed) -> Level
@@ -67,7 +80,13 @@ fn level_of(typed: Typed) -> Level
 }
 
 // The table after every pair, where there are so many arguments; what is left over behind the pairs is said.
-fn with_pairs(level: u8, count: usize, word: &mut [u8], name: &mut [u8]) -> Table {
+fn with_pairs(
+    rt: &HostRuntime,
+    level: u8,
+    count: usize,
+    word: &mut [u8],
+    name: &mut [u8],
+) -> Table {
     let records = [Tally::new(); sheet::LINES];
     let mut table = Table { records };
     if count < PAIRS {
@@ -79,27 +98,26 @@ fn with_pairs(level: u8, count: usize, word: &mut [u8], name: &mut [u8]) -> Tabl
     let mut i = 0;
     while i < pairs {
         let at = PAIRS + 2 * i;
-        table = with_pair(level, shown, at, at + 1, word, name, table);
+        table = with_pair(rt, level, shown, at, at + 1, word, name, table);
         i += 1;
     }
     if (count - PAIRS) % 2 == 1 {
-        say_odd(count - 1, word);
+        say_odd(rt, count - 1, word);
     }
     table
 }
 
 // A line number at the end, without a file.
-fn say_odd(at: usize, word: &mut [u8]) {
-    let n = os::arg(at, word);
-    if os::errno() != 0 {
-        say::too_long(at);
-        return;
+fn say_odd(rt: &HostRuntime, at: usize, word: &mut [u8]) {
+    match rt.arg(at, word) {
+        Ok(n) => say::line(rt, &word[..n], b"a line without a file", b""),
+        Err(_) => say::too_long(rt, at),
     }
-    say::line(&word[..n], b"a line without a file", b"");
 }
 
 // The table after the pair of arguments that stand at these indices, a line number and the name of a file.
 fn with_pair(
+    rt: &HostRuntime,
     level: u8,
     shown: bool,
     line_at: usize,
@@ -108,38 +126,48 @@ fn with_pair(
     name: &mut [u8],
     table: Table,
 ) -> Table {
-    let n = os::arg(file_at, name);
-    if os::errno() != 0 {
-        say::too_long(file_at);
+    let Ok(n) = rt.arg(file_at, name) else {
+        say::too_long(rt, file_at);
         return table;
-    }
-    let m = os::arg(line_at, word);
-    if os::errno() != 0 {
-        say::line(&name[..n], b"no line number: ", b"longer than 4096 octets");
+    };
+    let Ok(m) = rt.arg(line_at, word) else {
+        say::line(
+            rt,
+            &name[..n],
+            b"no line number: ",
+            b"longer than 4096 octets",
+        );
         return table;
-    }
-    with_file(level, shown, &word[..m], &name[..n], table)
+    };
+    with_file(rt, level, shown, &word[..m], &name[..n], table)
 }
 
 // The table after a file on the line that was typed.
-fn with_file(level: u8, shown: bool, word: &[u8], name: &[u8], table: Table) -> Table
+fn with_file(
+    rt: &HostRuntime,
+    level: u8,
+    shown: bool,
+    word: &[u8],
+    name: &[u8],
+    table: Table,
+) -> Table
     ensures { OthersKept (typed_of word.now) table.records result.records }
 {
     let typed = numerals::parse(word);
     let Typed::Number(line) = typed else {
-        say::line(name, b"no line number: ", word);
+        say::line(rt, name, b"no line number: ", word);
         return table;
     };
     if shown {
-        say::line(name, b"reading", b"");
+        say::line(rt, name, b"reading", b"");
     }
-    let capture = reading::read(level, name);
+    let capture = reading::read(rt, level, name);
     let Capture::Whole(counter) = capture else {
         return table;
     };
     let before = table.records;
     let sheet = sheet_table::tallied(before, line, counter.counts());
-    say::refusal(name, sheet.number, word);
+    say::refusal(rt, name, sheet.number, word);
     let records = sheet.lines;
     Table { records }
 }

@@ -5,14 +5,19 @@ ghost use Rattle.text.specs.Placed.{Placed};
 
 use crate::{Table, say};
 use sheet::Tally;
+use std::io::Write;
+
+// The sheet has room here.
+const SHEET: usize = 65_536;
 
 // A line for each record, from 0, in one write.
-pub(crate) fn print(table: Table) {
+pub(crate) fn print(rt: &HostRuntime, table: Table) {
     let records = table.records;
-    let mut out = io::large_buffer();
+    let mut out = [0u8; SHEET];
     let n = put_lines(records, &mut out);
-    if !io::write_all(libc::STDOUT_FILENO, say::front(&out, n)) {
-        say::unwritten();
+    let mut stdout = rt.stdout();
+    if stdout.write_all(say::front(&out, n)).is_err() {
+        say::unwritten(rt);
     }
 }
 

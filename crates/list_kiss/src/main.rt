@@ -1,6 +1,6 @@
 // Lists a captured KISS line from standard input.
 #![tactic(auto)]
 
-fn main() {
-    list_stdin::list(true, 0);
+fn main(rt: HostRuntime) {
+    list_stdin::list(&rt, true, 0);
 }

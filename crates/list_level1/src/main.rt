@@ -1,6 +1,6 @@
 // Lists a captured line from standard input at level 1.
 #![tactic(auto)]
 
-fn main() {
-    list_stdin::list(false, 1);
+fn main(rt: HostRuntime) {
+    list_stdin::list(&rt, false, 1);
 }

@@ -8,12 +8,10 @@ ghost use Rattle.qaft.specs.Limits.{max_level};
 ghost use Rattle.qaft.specs.Answers.{bad_level, done};
 
 use lister::Lister;
+use std::io::{Read, Write};
 
-const IN: i32 = 0;
-
-const OUT: i32 = 1;
-
-const ERR: i32 = 2;
+// So many octets are read, and put together for a write, at a time.
+const CHUNK: usize = 65_536;
 
 #[derive(Drop)]
 enum Turn {
@@ -22,30 +20,42 @@ enum Turn {
 }
 
 // Lists standard input to its end. A level that is none is refused before anything is read or written.
-pub fn list(kiss: bool, level: u8) -> u8
+pub fn list(rt: &HostRuntime, kiss: bool, level: u8) -> u8
     ensures { result ≡ cond (ltb max_level level) bad_level done }
 {
     if qaft::MAX_LEVEL < level {
         return qaft::BAD_LEVEL;
     }
-    let mut input = io::large_buffer();
+    let mut input = [0u8; CHUNK];
     let mut buffer = [0u8; qaft::MAX_SEGMENT];
-    let mut out = io::large_buffer();
+    let mut out = [0u8; CHUNK];
     let heading = listing_ends::put_heading(kiss, level, &mut out, 0);
-    write(&out, heading);
-    let l = list_chunks(Lister::new(kiss, level), &mut input, &mut buffer, &mut out);
+    write(rt, &out, heading);
+    let l = list_chunks(
+        rt,
+        Lister::new(kiss, level),
+        &mut input,
+        &mut buffer,
+        &mut out,
+    );
     let end = l.put_end(&mut out);
-    write(&out, end);
+    write(rt, &out, end);
     qaft::DONE
 }
 
 // Chunk after chunk, until there is no more.
-fn list_chunks(l: Lister, input: &mut [u8], buffer: &mut [u8], out: &mut [u8]) -> Lister {
+fn list_chunks(
+    rt: &HostRuntime,
+    l: Lister,
+    input: &mut [u8],
+    buffer: &mut [u8],
+    out: &mut [u8],
+) -> Lister {
     let mut s = l;
     let mut turns = u64::MAX;
     while 0 < turns {
         turns -= 1;
-        let turn = list_next(s, input, buffer, out);
+        let turn = list_next(rt, s, input, buffer, out);
         let Turn::More(next) = turn else {
             return s;
         };
@@ -55,28 +65,39 @@ fn list_chunks(l: Lister, input: &mut [u8], buffer: &mut [u8], out: &mut [u8]) -
 }
 
 // The next chunk, if there is one. A read that fails ends the listing with a line on standard error.
-fn list_next(l: Lister, input: &mut [u8], buffer: &mut [u8], out: &mut [u8]) -> Turn {
-    let got = libc::read(IN, input);
-    if got < 0 {
-        io::write_all(ERR, b"listing: standard input can't be read\n");
-        return Turn::Done;
+fn list_next(
+    rt: &HostRuntime,
+    l: Lister,
+    input: &mut [u8],
+    buffer: &mut [u8],
+    out: &mut [u8],
+) -> Turn {
+    let mut stdin = rt.stdin();
+    match stdin.read(input) {
+        Ok(0) => Turn::Done,
+        Ok(n) => Turn::More(list_chunk(rt, l, &input[..n], buffer, out)),
+        Err(_) => {
+            write_all(&mut rt.stderr(), b"listing: standard input can't be read\n");
+            Turn::Done
+        }
     }
-    if got == 0 {
-        return Turn::Done;
-    }
-    let n = io::count(got, input);
-    Turn::More(list_chunk(l, &input[..n], buffer, out))
 }
 
 // The lines of one chunk: where they fill the out buffer they are written, and the rest of the chunk goes into the next call.
-fn list_chunk(l: Lister, chunk: &[u8], buffer: &mut [u8], out: &mut [u8]) -> Lister {
+fn list_chunk(
+    rt: &HostRuntime,
+    l: Lister,
+    chunk: &[u8],
+    buffer: &mut [u8],
+    out: &mut [u8],
+) -> Lister {
     let mut s = l;
     let mut i = 0;
     while i < chunk.len() {
         let a = s.list(&chunk[i..], buffer, out);
         s = a.lister;
         i += a.taken;
-        write(out, a.length);
+        write(rt, out, a.length);
         // a refusal, which these buffers are too long for
         if a.taken == 0 {
             return s;
@@ -85,9 +106,14 @@ fn list_chunk(l: Lister, chunk: &[u8], buffer: &mut [u8], out: &mut [u8]) -> Lis
     s
 }
 
-// The first n octets.
-fn write(out: &[u8], n: usize) {
+// The first n octets, to standard output. What can't be written is lost.
+fn write(rt: &HostRuntime, out: &[u8], n: usize) {
     if n <= out.len() {
-        io::write_all(OUT, &out[..n]);
+        write_all(&mut rt.stdout(), &out[..n]);
     }
+}
+
+// Whether all of it was written.
+fn write_all<W: Write>(to: &mut W, octets: &[u8]) -> bool {
+    to.write_all(octets).is_ok()
 }

@@ -1,6 +1,6 @@
 // Converts a QAFT capture from standard input at level 1 to KISS.
 #![tactic(auto)]
 
-fn main() {
-    convert_stdin::convert(true, 1);
+fn main(rt: HostRuntime) {
+    convert_stdin::convert(&rt, true, 1);
 }
