@@ -14,7 +14,7 @@ MEMBERS = hasfandur hasfandur_dlc hasfandur_kiss hasfandur_conversion hasfandur_
 # each has a page docs/man/NAME.1
 PROGRAMS = list_level0 list_level1 list_kiss qaft_to_kiss qaft_to_kiss_level1 kiss_to_qaft kiss_to_qaft_level1 line_sheet
 BUILT = $(PROGRAMS:%=target/bin/%)
-SOURCES = crates.txt $(shell find crates -name '*.rt' -o -name '*.antt')
+SOURCES = crates.txt $(shell find crates -name out -prune -o -name '*.rt' -print -o -name '*.antt' -print)
 
 HEADER_AT = $(DESTDIR)$(INCLUDEDIR)/hasfandur.h
 ARCHIVE_AT = $(DESTDIR)$(LIBDIR)/libhasfandur.a
@@ -26,14 +26,15 @@ all: $(ARCHIVE) $(BUILT)
 
 # its members are named in this file
 $(ARCHIVE): $(SOURCES) Makefile
-	set -e; for member in $(MEMBERS); do rt staticlib $$member; done
+	set -e; for member in $(MEMBERS); do (cd crates/$$member && rt lib); done
+	mkdir -p $(dir $@)
 	rm -f $@
-	printf '%s\n' 'create $@' $(MEMBERS:%='addlib target/staticlib/lib%.a') save end | ar -M
+	printf '%s\n' 'create $@' $(foreach member,$(MEMBERS),'addlib crates/$(member)/out/lib$(member).a') save end | ar -M
 
-# all in one run; rt leaves a program alone that need not be built again, so its time is set here
+# rt builds a program and runs it: here on nothing, and what it says is let go
 $(BUILT) &: $(SOURCES)
-	rt check $(PROGRAMS)
-	touch $(BUILT)
+	mkdir -p target/bin
+	set -e; for program in $(PROGRAMS); do (cd crates/$$program && rt run </dev/null >/dev/null); cp crates/$$program/out/$$program target/bin/; done
 
 install: $(ARCHIVE) $(BUILT)
 	install -d $(dir $(HEADER_AT)) $(dir $(PC_AT)) $(BIN_AT) $(MAN_AT)

@@ -21,7 +21,7 @@ pub fn place(name: &str) -> PathBuf {
 /// A program that rt has built; its standard output and standard error are read unless the caller says otherwise.
 pub fn program(name: &str) -> Command {
     let path = place("target/bin").join(name);
-    assert!(path.exists(), "no {name}: `rt check {name}` builds it");
+    assert!(path.exists(), "no {name}: `make` builds it");
     let mut command = Command::new(path);
     command.stdout(Stdio::piped()).stderr(Stdio::piped());
     command
