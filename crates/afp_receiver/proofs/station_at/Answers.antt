@@ -1,7 +1,6 @@
 -- `afp_receiver::station_at`: what stands at the place is an ID, or the field breaks the rule.
-use Rattle.std.proofs.Common.{ℕ, ◌-◌, ◌≤◌, ◌<◌, take, arith, rules}
-use Rattle.stations.specs.declared.Field.TheVariants.{Id}
-use Rattle.stations.proofs.FieldAt.{Told, told_other, told_id}
+use Rattle.std.proofs.Common.{◌-◌, take, arith, rules}
+use Rattle.stations.proofs.FieldAt.{told_other, told_id}
 use Rattle.afp_receiver.proofs.Field.{field_bad, end_in, sum-wrong, sum_right}
 use Rattle.afp_receiver.proofs.station_at.Goals as goal
 
