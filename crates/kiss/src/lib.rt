@@ -40,6 +40,7 @@ pub const OUT_TOO_SMALL: u8 = 64;
 
 // The octets that are escaped: two, which stand there twice. Where many octets are escaped the writer goes without a branch; of a test
 // of two octets alone the compiler makes one again.
+#[tactic(auto, unfolding(crate::specs::Octets::escapes))]
 pub fn escapes() -> Escapes
     ensures { result ≡ escapes }
 {

@@ -12,7 +12,7 @@ use kiss_read::Reader;
 use kiss_report::Outcome;
 
 #[repr(C)]
-#[derive(Drop)]
+#[derive(Clone, Copy)]
 pub struct PlainReader {
     pub synced: u8,
     pub pending: u8,

@@ -14,7 +14,7 @@ use deframer::{Rule, State};
 use kiss_report::{Outcome, Report};
 
 #[repr(C)]
-#[derive(Drop)]
+#[derive(Clone, Copy)]
 pub struct Reader {
     pub synced: bool,
     pub pending: bool,
@@ -161,6 +161,7 @@ pub fn rule() -> Rule
 }
 
 // The verdict on the segment in which a call ended.
+#[tactic(auto, unfolding(crate::specs::Scanned::verdict_of))]
 fn judge(closed: bool, s: State) -> Verdict
     ensures { result ≡ verdict_of closed s }
 {
@@ -171,6 +172,7 @@ fn judge(closed: bool, s: State) -> Verdict
 }
 
 // What a closed segment is reported as, by the state in which the flag found it; first that applies.
+#[tactic(auto, using(kiss::proofs::Octets::data_zero), unfolding(kiss_rules::specs::Rules::verdict))]
 pub fn report_on(s: State) -> Report
     ensures { result ≡ verdict s.pending s.bad s.count s.check }
 {

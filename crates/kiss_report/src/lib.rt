@@ -8,7 +8,7 @@ ghost use Rattle.kiss.specs.Limits.{type_size};
 ghost use Rattle.kiss_report.specs.Answer.{report_number, number, report_length, payload_length};
 
 // What a closed segment is reported as; a frame has its number of payload octets.
-#[derive(Drop)]
+#[derive(Clone, Copy)]
 pub enum Report {
     Frame(usize),
     BadEscape,
@@ -18,7 +18,7 @@ pub enum Report {
 }
 
 // What a call comes to: a refusal by its number, a report, or a chunk used up without one.
-#[derive(Drop)]
+#[derive(Clone, Copy)]
 pub enum Outcome {
     Refused(u8),
     Reported(Report),
@@ -93,6 +93,7 @@ impl Outcome {
 }
 
 // n octets of a reader's buffer behind the type octet, or none where it has fewer.
+#[tactic(auto, unfolding(framing::specs::Reports::shown))]
 fn behind_type(buffer: &[u8], n: usize) -> &[u8]
     ensures { result.now ≡ shown buffer.now type_size n }
 {
