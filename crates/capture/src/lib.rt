@@ -10,7 +10,7 @@ ghost use Rattle.capture.specs.Whole.{before, flags, after};
 const PART: usize = 224;
 
 // Octets before the first flag, flags, octets between two flags, octets after the last; and whether a flag has come.
-#[derive(Drop)]
+#[derive(Clone, Copy)]
 pub struct Octets {
     pub synced: bool,
     pub before: u64,

@@ -15,7 +15,7 @@ use deframer::{Rule, State};
 pub const MAX_FRAME: usize = 2 * qaft::MAX_SEGMENT + 2;
 
 // What a report is to a conversion: a frame with its number of octets, a frame of another port or command, any other.
-#[derive(Drop)]
+#[derive(Clone, Copy)]
 pub enum Gist {
     Frame(usize),
     Skipped,
@@ -24,7 +24,7 @@ pub enum Gist {
 
 // What was made so far: whether a frame was written, so that the line stands at a flag; frames, frames of another port or command, and
 // other reports.
-#[derive(Drop)]
+#[derive(Clone, Copy)]
 pub struct Tally {
     pub at_flag: bool,
     pub frames: u64,
@@ -33,7 +33,7 @@ pub struct Tally {
 }
 
 // What goes from chunk to chunk: which way, and the level of the QAFT side; the state of reading; what was made so far.
-#[derive(Drop)]
+#[derive(Clone, Copy)]
 pub struct Converter {
     pub to_kiss: bool,
     pub level: u8,

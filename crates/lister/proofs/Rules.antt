@@ -1,7 +1,5 @@
 -- The rules by which a capture is listed obey what framing asks, and are those of the rule that is handed to the shared loop. Assumes nothing.
-use Rattle.std.proofs.Common.{◌≡◌, ℕ, ◌≤◌, Bool, true, false, [], ◌∷◌, refl, ◌∙◌, arith}
-use types.Run.{OneOf, miss}
-use denote.Enum.Declared.{tag_of}
+use Rattle.std.proofs.Common.{◌≡◌, ℕ, ◌≤◌, Bool, true, false, refl, ◌∙◌, arith}
 use Rattle.deframer.specs.Rule.{rules_of}
 use Rattle.framing.proofs.Told.{told_closing, told_lawful}
 use Rattle.framing.specs.Closing.{closing}
@@ -14,7 +12,6 @@ use Rattle.kiss_report.specs.declared.Report as kiss_reports
 use Rattle.kiss_report.specs.declared.Report.TheVariants as kiss_report
 use Rattle.kiss_rules.specs.Rules as kiss_rules
 use Rattle.lister.specs.Entries.{entry_of_qaft, entry_of_kiss, entry_length, source_rules, rule_of}
-use Rattle.listing.specs.contracts.Entry as entries
 use Rattle.listing.specs.declared.Entry.{Entry}
 use Rattle.listing.specs.declared.Entry.TheVariants.{Frame, Aborted, Long, Short, BadCheck, BadPair, BadEscape, Skipped}
 use Rattle.qaft.specs.Limits.{sum_kind, max_data, max_segment}
@@ -56,8 +53,8 @@ cap_is true level = refl
 cap_is false level = refl
 
 -- an entry that is no frame shows none
-pub no_frame : (p : Entry) → OneOf (1 ∷ 2 ∷ 3 ∷ 4 ∷ 5 ∷ 6 ∷ 7 ∷ []) (tag_of entries.the_type p) → 0 ≡ entry_length p
-no_frame (Frame n) k = absurd (miss (1 ∷ 2 ∷ 3 ∷ 4 ∷ 5 ∷ 6 ∷ 7 ∷ []) 0 tt k)
+pub no_frame : (p : Entry) → ((n : ℕ) → p ≡ Frame n → ⊥) → 0 ≡ entry_length p
+no_frame (Frame n) k = absurd (k n refl)
 no_frame Aborted k = refl
 no_frame Long k = refl
 no_frame Short k = refl

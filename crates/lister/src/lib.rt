@@ -24,7 +24,7 @@ const MOST_OCTETS: u64 = u64::MAX;
 
 // What goes from chunk to chunk: the framing, and the level of QAFT; the state of reading, the number of reports, the counts of
 // octets before and after the flags.
-#[derive(Drop)]
+#[derive(Clone, Copy)]
 pub struct Lister {
     pub kiss: bool,
     pub level: u8,

@@ -52,7 +52,7 @@ pub const COUNT_TOO_LARGE: u8 = 51;
 
 // What a capture adds: its counts, or the number of the refusal by which nothing was counted (6).
 #[repr(C)]
-#[derive(Drop)]
+#[derive(Clone, Copy)]
 pub struct Counts {
     pub number: u8,
     pub counts: [u64; COUNTS],
@@ -60,7 +60,7 @@ pub struct Counts {
 
 // The record of a line in the lent table.
 #[repr(C)]
-#[derive(Drop)]
+#[derive(Clone, Copy)]
 pub struct Tally {
     pub counts: [u32; COUNTS],
 }

@@ -14,7 +14,7 @@ use sheet_found::Found;
 use sheet_octets::RawOctets;
 
 // What goes from chunk to chunk: the level, the state of reading, octets, reports and packets.
-#[derive(Drop)]
+#[derive(Clone, Copy)]
 pub struct Counter {
     pub level: u8,
     pub state: State,

@@ -12,7 +12,7 @@ use qaft_report::Report;
 const NONE: u8 = dlc_packet::MODULUS;
 
 // Reports of each kind, DATA, DACK, repeats; the number of the last DATA.
-#[derive(Drop)]
+#[derive(Clone, Copy)]
 pub struct Found {
     pub frames: u64,
     pub aborted: u64,

@@ -12,7 +12,7 @@ ghost use Rattle.sheet_octets.specs.Raw.{raw_all, flow_of};
 use capture::{Octets, Parts};
 
 // Octets of a capture without its skipped ones; and of its flags and skipped octets alone.
-#[derive(Drop)]
+#[derive(Clone, Copy)]
 pub struct RawOctets {
     pub kept: Octets,
     pub skipped: Octets,
