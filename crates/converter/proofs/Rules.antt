@@ -1,5 +1,5 @@
 -- The rules by which a capture is read obey what framing asks, and are those of the rule that is handed to the shared loop. Assumes nothing.
-use Rattle.std.proofs.Common.{◌≡◌, ℕ, ◌-◌, ◌≤◌, Bool, true, false, refl, ◌∙◌, arith}
+use Rattle.std.proofs.Common.{◌≡◌, ℕ, ◌≤◌, Bool, true, false, refl, ◌∙◌, arith}
 use Rattle.converter.specs.Gist.{gist_of_qaft, gist_of_kiss, gist_length, source_rules, rule_of}
 use Rattle.converter.specs.declared.Gist.{Gist}
 use Rattle.converter.specs.declared.Gist.TheVariants.{Frame, Skipped, Other}

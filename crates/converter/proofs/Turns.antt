@@ -16,7 +16,6 @@ use Rattle.deframer.specs.Scan.{view}
 use Rattle.deframer.specs.declared.State as declared
 use Rattle.framing.specs.Rules.{State}
 use Rattle.line.specs.Gather.{Gathered}
-use Rattle.line.specs.Gather as gathering
 use Rattle.line.specs.Texts.{Texts}
 use Rattle.qaft.specs.Answers.{done}
 use Rattle.qaft.specs.Limits.{max_data, max_segment, max_frame}

@@ -1,0 +1,164 @@
+-- `converter::put_frames` meets its contract. The loop's invariant: what is left of the chunk gives what the whole gives, i octets on. Assumes nothing.
+use Rattle.std.proofs.Common.{◌+◌, ◌-◌, ◌≤◌, length, take, drop, sym, refl, ap, ◌∙◌, subst, arith, length-drop, length-take-le}
+use Rattle.converter.proofs.Rules.{Within, rule_rules}
+use Rattle.converter.proofs.Turns.{cap_is, answered, gist_within, put_out, put_behind, put_long, put_fits, within-length}
+use Rattle.converter.specs.Convert.{report_text, counted, gathered}
+use Rattle.converter.specs.Gist.{source_rules, rule_of}
+use Rattle.deframer.proofs.TextTurns.{Turn, start_inv, turn_full, turn_within, turn_ends, turn_takes, turn-goes}
+use Rattle.deframer.specs.Scan.{opened, scanned}
+use Rattle.deframer.specs.declared.Rule.{Rule}
+use Rattle.qaft.specs.Limits.{max_segment, max_frame}
+use Rattle.converter.proofs.put_frames.Goals as goal
+
+pub loop-at-init : goal.loop-at-init
+loop-at-init c =
+    let p = c in
+    let to_kiss = p.args.c.to_kiss in
+    let level = p.args.c.level in
+    (omega arith, refl, refl, start_inv (report_text to_kiss level) counted max_frame (rule_of to_kiss level) (source_rules to_kiss level) (rule_rules to_kiss level) _ _ _ _ _ p.requires.1)
+
+pub overflow_add-i : goal.overflow_add-i
+overflow_add-i c =
+    let room : c.loop-at.at + max_frame ≤ length c.loop-at.out = (let p = c in omega (arith, c.loop-at-test.true, c.loop-at.invariant.2, p.requires.1)) in
+    let segment : max_segment ≤ length c.loop-at.buffer = (let p = c in omega (arith, c.loop-at.invariant.1, p.requires.2)) in
+    let turn : let l = c.loop-at in let a = c.args in let to_kiss = a.c.to_kiss in Turn (report_text to_kiss a.c.level) counted max_frame (rule_of to_kiss a.c.level) (source_rules to_kiss a.c.level) (rule_rules to_kiss a.c.level) (gathered a.c a.chunk.now a.buffer.now a.out.now) l.state l.tally a.chunk.now l.buffer l.out l.i l.at c.scan-scanned.result c.scan-scanned.new.buffer = (let l = c.loop-at in
+    let a = c.args in
+    let r = c.source_rule-rule.ensures in
+    let rest = take (length a.chunk.now - l.i) (drop l.i a.chunk.now) in
+    record {
+      within = l.invariant.0;
+      segment = omega (arith, segment, cap_is a.c.to_kiss a.c.level);
+      room = room;
+      inv = l.invariant.3;
+      answer = c.scan-scanned.ensures.value ∙ ap (λ (x : Rule). (scanned x l.state rest l.buffer).answer) r;
+      buffer = c.scan-scanned.ensures.buffer_after ∙ ap (λ (x : Rule). (scanned x l.state rest l.buffer).buffer) r;
+    }) in
+    omega (arith, turn_within _ _ _ _ _ _ turn)
+
+pub slice_bounds-put-count : goal.slice_bounds-put-count
+slice_bounds-put-count c =
+    let room : c.loop-at.at + max_frame ≤ length c.loop-at.out = (let p = c in omega (arith, c.loop-at-test.true, c.loop-at.invariant.2, p.requires.1)) in
+    omega (arith, room)
+
+pub slice_bounds-put-start : goal.slice_bounds-put-start
+slice_bounds-put-start c =
+    let room : c.loop-at.at + max_frame ≤ length c.loop-at.out = (let p = c in omega (arith, c.loop-at-test.true, c.loop-at.invariant.2, p.requires.1)) in
+    omega (arith, room)
+
+pub put-at-requires : goal.put-at-requires
+put-at-requires c =
+    let room : c.loop-at.at + max_frame ≤ length c.loop-at.out = (let p = c in omega (arith, c.loop-at-test.true, c.loop-at.invariant.2, p.requires.1)) in
+    let segment : max_segment ≤ length c.loop-at.buffer = (let p = c in omega (arith, c.loop-at.invariant.1, p.requires.2)) in
+    let k = c in
+    let l = k.loop-at in
+    let a = k.args in
+    let p = k in
+    let g = c.gist-gist.ensures in
+    let w = gist_within a.c k.scan-scanned.result.state in
+    let n = length-drop l.at l.out in (
+      p.requires.0,
+      omega (arith, c.length.ensures, within-length c.gist-gist.result (subst Within (sym g) w)),
+      omega (arith, k.scan-scanned.auto.buffer, segment),
+      omega (arith, length-take-le (length l.out - l.at) (drop l.at l.out) (omega (arith, n)), room),
+    )
+
+pub overflow_add-at : goal.overflow_add-at
+overflow_add-at c =
+    let room : c.loop-at.at + max_frame ≤ length c.loop-at.out = (let p = c in omega (arith, c.loop-at-test.true, c.loop-at.invariant.2, p.requires.1)) in
+    let k = c in
+    let l = k.loop-at in
+    let a = k.args in
+    let q = c.put-at.ensures in
+    omega (arith, l.invariant.2, k.well_formed.1.1.1.0, put_fits a.c k.scan-scanned.result.state l.tally _ l.out l.at room _ c.gist-gist.ensures _ c.length.ensures _ _ q.value q.out_after)
+
+pub loop-at-smaller : goal.loop-at-smaller
+loop-at-smaller c =
+    let room : c.loop-at.at + max_frame ≤ length c.loop-at.out = (let p = c in omega (arith, c.loop-at-test.true, c.loop-at.invariant.2, p.requires.1)) in
+    let segment : max_segment ≤ length c.loop-at.buffer = (let p = c in omega (arith, c.loop-at.invariant.1, p.requires.2)) in
+    let turn : let l = c.loop-at in let a = c.args in let to_kiss = a.c.to_kiss in Turn (report_text to_kiss a.c.level) counted max_frame (rule_of to_kiss a.c.level) (source_rules to_kiss a.c.level) (rule_rules to_kiss a.c.level) (gathered a.c a.chunk.now a.buffer.now a.out.now) l.state l.tally a.chunk.now l.buffer l.out l.i l.at c.scan-scanned.result c.scan-scanned.new.buffer = (let l = c.loop-at in
+    let a = c.args in
+    let r = c.source_rule-rule.ensures in
+    let rest = take (length a.chunk.now - l.i) (drop l.i a.chunk.now) in
+    record {
+      within = l.invariant.0;
+      segment = omega (arith, segment, cap_is a.c.to_kiss a.c.level);
+      room = room;
+      inv = l.invariant.3;
+      answer = c.scan-scanned.ensures.value ∙ ap (λ (x : Rule). (scanned x l.state rest l.buffer).answer) r;
+      buffer = c.scan-scanned.ensures.buffer_after ∙ ap (λ (x : Rule). (scanned x l.state rest l.buffer).buffer) r;
+    }) in
+    let k = c in
+    omega (arith, turn_within _ _ _ _ _ _ turn, turn_takes _ _ _ _ _ _ turn c.if-scanned.true)
+
+pub loop-at-preserved : goal.loop-at-preserved
+loop-at-preserved c =
+    let room : c.loop-at.at + max_frame ≤ length c.loop-at.out = (let p = c in omega (arith, c.loop-at-test.true, c.loop-at.invariant.2, p.requires.1)) in
+    let segment : max_segment ≤ length c.loop-at.buffer = (let p = c in omega (arith, c.loop-at.invariant.1, p.requires.2)) in
+    let turn : let l = c.loop-at in let a = c.args in let to_kiss = a.c.to_kiss in Turn (report_text to_kiss a.c.level) counted max_frame (rule_of to_kiss a.c.level) (source_rules to_kiss a.c.level) (rule_rules to_kiss a.c.level) (gathered a.c a.chunk.now a.buffer.now a.out.now) l.state l.tally a.chunk.now l.buffer l.out l.i l.at c.scan-scanned.result c.scan-scanned.new.buffer = (let l = c.loop-at in
+    let a = c.args in
+    let r = c.source_rule-rule.ensures in
+    let rest = take (length a.chunk.now - l.i) (drop l.i a.chunk.now) in
+    record {
+      within = l.invariant.0;
+      segment = omega (arith, segment, cap_is a.c.to_kiss a.c.level);
+      room = room;
+      inv = l.invariant.3;
+      answer = c.scan-scanned.ensures.value ∙ ap (λ (x : Rule). (scanned x l.state rest l.buffer).answer) r;
+      buffer = c.scan-scanned.ensures.buffer_after ∙ ap (λ (x : Rule). (scanned x l.state rest l.buffer).buffer) r;
+    }) in
+    let k = c in
+    let l = k.loop-at in
+    let a = k.args in
+    let to_kiss = a.c.to_kiss in
+    let s = k.scan-scanned.result.state in
+    let q = c.put-at.ensures in
+    let g = c.gist-gist.ensures in
+    let n = c.length.ensures in
+    let z = c.opened-state.ensures ∙ ap opened k.source_rule-rule.ensures in
+    let goes = turn-goes _ _ _ _ _ _ turn c.if-scanned.true _ g _ _ _ _ z c.with-tally.ensures
+    (put_out a.c s l.tally _ l.out l.at room _ g _ n _ _ q.value q.out_after) (put_behind a.c s l.tally _ l.out l.at room _ g _ n _ _ q.value q.out_after) in (
+      turn_within _ _ _ _ _ _ turn,
+      k.scan-scanned.auto.buffer ∙ l.invariant.1,
+      put_long a.c s l.tally _ l.out l.at room _ g _ n _ _ q.value q.out_after ∙ l.invariant.2,
+      goes,
+    )
+
+pub returns-else-scanned : goal.returns-else-scanned
+returns-else-scanned c =
+    let room : c.loop-at.at + max_frame ≤ length c.loop-at.out = (let p = c in omega (arith, c.loop-at-test.true, c.loop-at.invariant.2, p.requires.1)) in
+    let segment : max_segment ≤ length c.loop-at.buffer = (let p = c in omega (arith, c.loop-at.invariant.1, p.requires.2)) in
+    let turn : let l = c.loop-at in let a = c.args in let to_kiss = a.c.to_kiss in Turn (report_text to_kiss a.c.level) counted max_frame (rule_of to_kiss a.c.level) (source_rules to_kiss a.c.level) (rule_rules to_kiss a.c.level) (gathered a.c a.chunk.now a.buffer.now a.out.now) l.state l.tally a.chunk.now l.buffer l.out l.i l.at c.scan-scanned.result c.scan-scanned.new.buffer = (let l = c.loop-at in
+    let a = c.args in
+    let r = c.source_rule-rule.ensures in
+    let rest = take (length a.chunk.now - l.i) (drop l.i a.chunk.now) in
+    record {
+      within = l.invariant.0;
+      segment = omega (arith, segment, cap_is a.c.to_kiss a.c.level);
+      room = room;
+      inv = l.invariant.3;
+      answer = c.scan-scanned.ensures.value ∙ ap (λ (x : Rule). (scanned x l.state rest l.buffer).answer) r;
+      buffer = c.scan-scanned.ensures.buffer_after ∙ ap (λ (x : Rule). (scanned x l.state rest l.buffer).buffer) r;
+    }) in
+    let k = c in
+    let l = k.loop-at in
+    let a = k.args in
+    let e = answered a.c _ _ l.tally _ l.out _ l.at _ (turn_ends _ _ _ _ _ _ turn c.if-scanned.false) c.later.ensures in
+    record {
+      value = e.0;
+      buffer_after = e.1;
+      out_after = e.2;
+    }
+
+pub returns : goal.returns
+returns c =
+    let l = c.loop-at in
+    let p = c in
+    let a = p.args in
+    let to_kiss = a.c.to_kiss in
+    let full = turn_full (report_text to_kiss a.c.level) counted max_frame (rule_of to_kiss a.c.level) (source_rules to_kiss a.c.level) (rule_rules to_kiss a.c.level) _ l.state _ l.buffer l.tally l.out l.i l.at (omega (arith, c.loop-at-test.false, l.invariant.2, p.requires.1)) l.invariant.3 in
+    let e = answered a.c _ l.state l.tally l.buffer l.out l.i l.at _ full c.later-2.ensures in
+    record {
+      value = e.0;
+      buffer_after = e.1;
+      out_after = e.2;
+    }
