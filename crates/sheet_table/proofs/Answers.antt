@@ -1,12 +1,9 @@
 -- From the answer by value to what the table's definition says. Assumes nothing.
 use Prim.Native.Nat.{ℕ, ◌≤◌}
-use mathlib.Core.Bool.{not}
 use mathlib.Core.List.{List}
 use mathlib.Core.Path.{◌≡◌, refl, sym, ap, ◌∙◌}
-use lib.Dec.{T, eqb}
 use lib.ListN.{length, set}
 use lib.Seq.{set-get_or}
-use mir.Facts.{T_not-not, eqb_yes, eqb_no}
 use Rattle.common.proofs.Refusals.{guarded_both}
 use Rattle.sheet.specs.Answers.{no_line}
 use Rattle.sheet.specs.Tallies.{fresh_tally}
@@ -41,8 +38,8 @@ module _ (ys : List Tally) (i : ℕ) (c : Counts) where
       (ends.0, sym (set-get_or ys i fresh_tally) ∙ ends.1)
 
   -- past the table nothing is put; the code's test of the number came out so
-  pub ends_given : T (not (eqb c.number 0)) → Ends c.number ys
-  ends_given t = ends_refused c.number (judged_refused (record_of ys i) c i (length ys) (eqb_no t))
+  pub ends_given : (c.number ≡ 0 → ⊥) → Ends c.number ys
+  ends_given t = ends_refused c.number (judged_refused (record_of ys i) c i (length ys) t)
 
-  pub ends_past : T (not (not (eqb c.number 0))) → length ys ≤ i → Ends no_line ys
-  ends_past t h = ends_refused no_line (judged_past (record_of ys i) c i (length ys) (eqb_yes (T_not-not (eqb c.number 0) t)) h)
+  pub ends_past : c.number ≡ 0 → length ys ≤ i → Ends no_line ys
+  ends_past t h = ends_refused no_line (judged_past (record_of ys i) c i (length ys) t h)

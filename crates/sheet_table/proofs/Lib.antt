@@ -1,6 +1,2 @@
 pub mod Answers
-pub mod LentArray
 pub mod Lines
-pub mod Locals
-pub mod Machine
-pub mod Offsets
