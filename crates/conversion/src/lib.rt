@@ -5,7 +5,7 @@
 ghost use Rattle.std.specs.Prelude.{◌≡◌, true, false, ◌+◌, ◌≤◌, leb, length, take};
 ghost use Rattle.std.proofs.lemmas.List.Edits.{sets};
 ghost use Rattle.qaft.specs.Limits.{max_level};
-ghost use Rattle.converter.specs.Convert.{too_small};
+ghost use Rattle.converter.specs.Convert.{too_small as too_small_of};
 ghost use Rattle.conversion_laws.specs.Frames.{conversion_of};
 ghost use Rattle.conversion.specs.Whole.{converted, convert_whole};
 
@@ -42,7 +42,7 @@ pub fn kiss_to_qaft(level: u8, capture: &[u8], out: &mut [u8]) -> Conversion
 }
 
 fn whole(to_kiss: bool, level: u8, too_small: u8, capture: &[u8], out: &mut [u8]) -> Conversion
-    requires { too_small ≡ too_small to_kiss }
+    requires { too_small ≡ too_small_of to_kiss }
     ensures value { result ≡ (convert_whole to_kiss level capture.now out.old).answer }
     ensures out_after { out.new ≡ (convert_whole to_kiss level capture.now out.old).buffer }
 {
