@@ -20,7 +20,7 @@ pub struct Octets {
 }
 
 // Octets of a chunk before its first flag, its flags, octets between two of them, octets after the last.
-#[derive(Drop)]
+#[derive(Clone, Copy)]
 pub struct Parts {
     pub before: usize,
     pub flags: usize,
