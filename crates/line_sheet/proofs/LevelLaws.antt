@@ -18,6 +18,11 @@ pub level_over : (t : Typed) (n : ℕ) → t ≡ Typed.Number n → max_level < 
 unfolding level_of
 level_over t n e h = rw (e, lt-leb n max_level h)
 
+pub level_none : (t : Typed) → ((n : ℕ) → t ≡ Typed.Number n → ⊥) → Level.None ≡ level_of t
+unfolding level_of
+level_none (Typed.Number n) h = absurd (h n refl)
+level_none Typed.None h = refl
+
 level_1 : level_of (typed_of (ascii "1")) ≡ Level.Is 1
 unfolding typed_of typed_from value_from all_digits level_of
 level_1 = refl

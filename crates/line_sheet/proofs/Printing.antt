@@ -17,11 +17,14 @@ use Rattle.sheet.specs.contracts.Tally as T
 use Rattle.sheet.specs.Limits.{lines, counts_long}
 use Rattle.sheet.specs.declared.Tally.{Tally}
 use Rattle.sheet_line.proofs.Line.{length-line_text}
-use Rattle.sheet_line.proofs.Shape.{counts_long_lem}
 use Rattle.sheet_line.specs.Line.{line_text, line_room}
 use Rattle.text.proofs.Room.{text_room}
 use Rattle.text.specs.Placed.{Placed}
 use Rattle.text.specs.Room.{text_into, text_end}
+
+-- what owning a record tells of its counts: how many there are
+counts_long_lem : (t : Tally) (vs : List Val) → Is T.the_row t vs → length t.counts ≡ counts_long
+counts_long_lem t vs g = g.1.1.0.1.0.1
 
 -- every record has all its counts
 abbrev pub Long : List Tally → Type 0

@@ -1,6 +1,7 @@
 // What is said on standard error, a line at a time.
 ghost use Rattle.std.specs.Prelude.{◌≡◌, take};
 
+use std::fmt::Write as TextWrite;
 use std::io::Write;
 use std::{fmt, io};
 
