@@ -36,7 +36,7 @@ broadcast_written = refl
 abbrev broadcast_meaning : Meaning
 broadcast_meaning = record { protocol = 0xF0; ids = source ∷ []; next = 0; supplementary = none; payload = [] }
 
-pub broadcast_means : meaning broadcast_frame ≡ means broadcast_meaning false
+pub broadcast_means : meaning broadcast_frame ≡ means (record { protocol = 0xF0; ids = source ∷ []; next = 0; supplementary = none; payload = [] }) false
 unfolding meaning meant refusals envelope_refusals fixed_refusals station_refusals rest_refusals stations_in variable_part lacks_next right_header_sum header_sum next_offset next_station_sum sum_from stations_of stations_from next_after closed_at ids_from valid_id valid_suffix callsign_length all_graphic is_callsign is_graphic valid_supplementary valid_options callsigns_after supplementary_in check_sequence feed_all feed feed_bits feed_bit
 broadcast_means = refl
 
@@ -55,7 +55,8 @@ abbrev relayed_meaning : Meaning
 relayed_meaning =
     record { protocol = 0x01; ids = source ∷ (0x41 ∷ 0x2F ∷ 0x32 ∷ 0x2D ∷ 0x78 ∷ []) ∷ []; next = 2; supplementary = some []; payload = 0x7E ∷ 0x00 ∷ [] }
 
-pub relayed_means : meaning (encode relayed) ≡ means relayed_meaning false
+pub relayed_means : meaning (encode relayed)
+    ≡ means (record { protocol = 0x01; ids = source ∷ (0x41 ∷ 0x2F ∷ 0x32 ∷ 0x2D ∷ 0x78 ∷ []) ∷ []; next = 2; supplementary = some []; payload = 0x7E ∷ 0x00 ∷ [] }) false
 unfolding encode frame_of with_check header_of header_before meaning meant refusals envelope_refusals fixed_refusals station_refusals rest_refusals stations_in variable_part lacks_next right_header_sum header_sum next_offset next_station_sum sum_from stations_of stations_from next_after closed_at ids_from valid_id valid_suffix callsign_length all_graphic is_callsign is_graphic valid_supplementary valid_options callsigns_after supplementary_in check_sequence feed_all feed feed_bits feed_bit
 relayed_means = refl
 

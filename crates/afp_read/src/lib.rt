@@ -11,13 +11,16 @@ ghost use Rattle.afp_read.specs.Meaning.{meaning, verdict};
 use afp::Part;
 use stations::Stations;
 
+// The first protocol octet that is reserved.
+const FIRST_RESERVED: u8 = afp::FIRST_RESERVED;
+
 // A received header sum that its sender did not calculate.
 const NOT_CALCULATED: u8 = 0;
 
 // What stands where in a frame; or the number of its refusal, and then all else is 0. The station fields are with their closing 0,
 // and the supplementary header with its length octet: its size is 0 where it is absent, and 1 where it is present and empty.
 #[repr(C)]
-#[derive(Drop)]
+#[derive(Clone, Copy)]
 pub struct Reading {
     pub number: u8,
     pub protocol: u8,
@@ -80,7 +83,7 @@ fn fixed_refusal(frame: &[u8]) -> u8
     if frame[1] != afp::VERSION {
         return afp::BAD_VERSION;
     }
-    if afp::FIRST_RESERVED <= frame[2] {
+    if FIRST_RESERVED <= frame[2] {
         return afp::BAD_PROTOCOL;
     }
     afp::offset_refusal(frame[3], frame.len())

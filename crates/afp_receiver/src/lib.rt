@@ -26,7 +26,7 @@ pub enum Receiver {
 
 // The same in plain numbers: place and size are 0 unless a station is named.
 #[repr(C)]
-#[derive(Drop)]
+#[derive(Clone, Copy)]
 pub struct PlainReceiver {
     pub number: u8,
     pub field: Part,

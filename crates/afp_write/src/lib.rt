@@ -16,7 +16,7 @@ use stations::{Next, Stations};
 
 // How many octets were written, or the number of the refusal.
 #[repr(C)]
-#[derive(Drop)]
+#[derive(Clone, Copy)]
 pub struct Written {
     pub number: u8,
     pub length: usize,
@@ -130,7 +130,7 @@ fn put_frame(
     payload: &[u8],
     out: &mut [u8],
 ) -> usize
-    requires { (next.index ≤ max_variable) × (length fields.now + length supplementary.now ≤ max_variable) × (header_length (length fields.now) (length supplementary.now) + length payload.now + 2 ≤ length out.old) }
+    requires { (next.index ≤ 250) × (length fields.now + length supplementary.now ≤ max_variable) × (header_length (length fields.now) (length supplementary.now) + length payload.now + 2 ≤ length out.old) }
     ensures { (result ≡ header_length (length fields.now) (length supplementary.now) + length payload.now + 2) × (out.new ≡ with_front (with_check (header_of protocol next fields.now supplementary.now ++ payload.now)) out.old) }
 {
     let header = put_header(protocol, next, fields, supplementary, out);
@@ -146,7 +146,7 @@ fn put_header(
     supplementary: &[u8],
     out: &mut [u8],
 ) -> usize
-    requires { (next.index ≤ max_variable) × (length fields.now + length supplementary.now ≤ max_variable) × (header_length (length fields.now) (length supplementary.now) ≤ length out.old) }
+    requires { (next.index ≤ 250) × (length fields.now + length supplementary.now ≤ max_variable) × (header_length (length fields.now) (length supplementary.now) ≤ length out.old) }
     ensures { (result ≡ header_length (length fields.now) (length supplementary.now)) × (out.new ≡ with_front (header_of protocol next fields.now supplementary.now) out.old) }
 {
     let summed = put_before(protocol, next, fields, supplementary, out);
@@ -163,7 +163,7 @@ fn put_before(
     supplementary: &[u8],
     out: &mut [u8],
 ) -> usize
-    requires { (next.index ≤ max_variable) × (length fields.now + length supplementary.now ≤ max_variable) × (fields_at + (length fields.now + length supplementary.now) ≤ length out.old) }
+    requires { (next.index ≤ 250) × (length fields.now + length supplementary.now ≤ max_variable) × (fields_at + (length fields.now + length supplementary.now) ≤ length out.old) }
     ensures { (result ≡ fields_at + (length fields.now + length supplementary.now)) × (out.new ≡ with_front (header_before protocol next fields.now supplementary.now) out.old) }
 {
     let header = afp::FIXED_SIZE + (fields.len() + supplementary.len());
@@ -177,7 +177,7 @@ fn put_before(
 
 // Octet 4 for a next station.
 fn next_offset(next: Next) -> u8
-    requires { next.index ≤ max_variable }
+    requires { next.index ≤ 250 }
     ensures { result ≡ next_offset next }
 {
     let number = next.number;

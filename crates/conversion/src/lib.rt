@@ -16,7 +16,7 @@ const SCRATCH: usize = 8192;
 
 // The answer: a refusal's number or 0; the octets written; frames, frames of another port or command (63), other reports.
 #[repr(C)]
-#[derive(Drop)]
+#[derive(Clone, Copy)]
 pub struct Conversion {
     pub number: u8,
     pub length: usize,

@@ -43,7 +43,7 @@ pub struct Converter {
 
 // The answer to a call: a refusal's number or 0, the octets of the chunk taken, the octets put at the front of the out buffer,
 // and what goes into the next call.
-#[derive(Drop)]
+#[derive(Clone, Copy)]
 pub struct Converted {
     pub number: u8,
     pub taken: usize,

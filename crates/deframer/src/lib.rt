@@ -48,7 +48,7 @@ pub struct State {
 
 // The answer to a call. Where a segment was closed, `state` is the state in which the flag found it, and the next call starts
 // from `Rule::opened`; else it is the state for the next call.
-#[derive(Drop)]
+#[derive(Clone, Copy)]
 pub struct Scanned {
     pub closed: bool,
     pub taken: usize,
@@ -56,7 +56,7 @@ pub struct Scanned {
 }
 
 // What one octet of the line does: it changes the state alone; it stores an octet at an index of the buffer; it closes a segment.
-#[derive(Drop)]
+#[derive(Clone, Copy)]
 pub enum Action {
     Advance(State),
     Store(State, usize, u8),

@@ -11,7 +11,7 @@ use crate::{Rule, State};
 const MOST: usize = 32;
 
 // How many octets of a chunk were taken, and the state behind them.
-#[derive(Drop)]
+#[derive(Clone, Copy)]
 pub struct Taken {
     pub taken: usize,
     pub state: State,

@@ -34,7 +34,7 @@ pub struct Link {
     pub edition: u8,
 }
 
-#[derive(Drop)]
+#[derive(Clone, Copy)]
 pub struct Outcome {
     pub link: Link,
     pub answer: Answer,

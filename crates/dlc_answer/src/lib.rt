@@ -9,7 +9,7 @@ use dlc_queue::Queue;
 // What an event answers: its number; whether the upper layer is told to reset; whether the lent packet delivers a payload;
 // how many packets stand at the front of the reply buffer, and their lengths, the unused ones 0.
 #[repr(C)]
-#[derive(Drop)]
+#[derive(Clone, Copy)]
 pub struct Answer {
     pub code: u8,
     pub upper_reset: bool,

@@ -33,7 +33,7 @@ pub struct PlainLink {
 }
 
 #[repr(C)]
-#[derive(Drop)]
+#[derive(Clone, Copy)]
 pub struct PlainOutcome {
     pub link: PlainLink,
     pub answer: Answer,

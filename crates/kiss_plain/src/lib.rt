@@ -23,7 +23,7 @@ pub struct PlainReader {
 
 // The report or refusal, the octets taken, the payload octets shown, the state for the next call.
 #[repr(C)]
-#[derive(Drop)]
+#[derive(Clone, Copy)]
 pub struct PlainAnswer {
     pub number: u8,
     pub taken: usize,

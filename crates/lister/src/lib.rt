@@ -35,7 +35,7 @@ pub struct Lister {
 
 // The answer to a call: a refusal's number or 0, the octets of the chunk taken, the octets put at the front of the out
 // buffer, and what goes into the next call.
-#[derive(Drop)]
+#[derive(Clone, Copy)]
 pub struct Listed {
     pub number: u8,
     pub taken: usize,

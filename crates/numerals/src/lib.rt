@@ -4,7 +4,7 @@
 ghost use Rattle.std.specs.Prelude.{◌≡◌};
 ghost use Rattle.numerals.specs.Number.{typed_of};
 
-#[derive(Drop)]
+#[derive(Clone, Copy)]
 pub enum Typed {
     Number(usize),
     None,

@@ -26,7 +26,7 @@ pub struct PlainReader {
 
 // The report or refusal, the octets taken, the data octets shown, the state for the next call.
 #[repr(C)]
-#[derive(Drop)]
+#[derive(Clone, Copy)]
 pub struct PlainAnswer {
     pub number: u8,
     pub taken: usize,

@@ -27,14 +27,14 @@ pub struct Reader {
 }
 
 // The verdict on a segment: none while it is open, a report where a flag closed it.
-#[derive(Drop)]
+#[derive(Clone, Copy)]
 pub enum Verdict {
     Open,
     Closed(Report),
 }
 
 // The answer to a call: what came of it, the octets taken, and the state for the next call.
-#[derive(Drop)]
+#[derive(Clone, Copy)]
 pub struct Answer {
     pub outcome: Outcome,
     pub taken: usize,

@@ -6,7 +6,7 @@ ghost use Rattle.qaft_write.specs.Write.{write_frame};
 
 // The writer's answer: a number of document 01, and how many octets of the out buffer were written.
 #[repr(C)]
-#[derive(Drop)]
+#[derive(Clone, Copy)]
 pub struct Written {
     pub number: u8,
     pub length: usize,

@@ -23,7 +23,7 @@ pub struct Counter {
 }
 
 // The answer to a call: a refusal's number or 0, and what goes into the next call.
-#[derive(Drop)]
+#[derive(Clone, Copy)]
 pub struct Counted {
     pub number: u8,
     pub counter: Counter,

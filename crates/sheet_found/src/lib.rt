@@ -50,11 +50,7 @@ impl Found {
         ensures { result ≡ found_with self (record { report = report; octets = octets.now }) }
     {
         let n = report.number();
-        // a kind is used up where it is looked at
         let kind = dlc_packet::kind_of(octets);
-        let again = dlc_packet::kind_of(octets);
-        let before = dlc_packet::kind_of(octets);
-        let after = dlc_packet::kind_of(octets);
         Found {
             frames: more(n == qaft::FRAME, self.frames),
             aborted: more(n == qaft::ABORTED, self.aborted),
@@ -63,9 +59,9 @@ impl Found {
             bad_checks: more(n == qaft::BAD_CHECK, self.bad_checks),
             bad_pairs: more(n == qaft::BAD_PAIR, self.bad_pairs),
             data_packets: more(is_data(kind), self.data_packets),
-            dack_packets: more(is_dack(again), self.dack_packets),
-            repeats: more(is_numbered(self.last, before), self.repeats),
-            last: number_after(self.last, after),
+            dack_packets: more(is_dack(kind), self.dack_packets),
+            repeats: more(is_numbered(self.last, kind), self.repeats),
+            last: number_after(self.last, kind),
         }
     }
 }

@@ -26,7 +26,7 @@ pub fn tally(table: &mut [Tally], line: usize, counts: Counts) -> u8
 }
 
 // The number given back, and the lines after it.
-#[derive(Drop)]
+#[derive(Clone, Copy)]
 pub struct Sheet {
     pub number: u8,
     pub lines: [Tally; sheet::LINES],

@@ -8,7 +8,7 @@ ghost use Rattle.sheet_tally.specs.Adding.{added_of, judged_of};
 use sheet::{Counts, Tally};
 
 // The number given back, and the record after it: as it came on a refusal.
-#[derive(Drop)]
+#[derive(Clone, Copy)]
 pub struct Added {
     pub number: u8,
     pub tally: Tally,

@@ -26,7 +26,7 @@ pub struct Stations {
 }
 
 // What stands at an index of the station fields: an ID with the index behind it.
-#[derive(Drop)]
+#[derive(Clone, Copy)]
 pub enum Field {
     Closing,
     Id(usize),

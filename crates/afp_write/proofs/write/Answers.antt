@@ -37,7 +37,7 @@ put_frame-count-requires c =
     let a = c.args in
     let t = sizes_fit (length a.fields.now) (length a.supplementary.now) (length a.payload.now) (length a.out.now) (sym c.if-refusal-ne-DONE-2.false ∙ c.size_refusal-refusal.ensures) in
     let b = stations_within 0 a.next a.fields.now in
-    let e : c.parse-parsed.result.next.index ≤ max_variable = rw c.parse-parsed.ensures (omega arith) in
+    let e : c.parse-parsed.result.next.index ≤ 250 = rw c.parse-parsed.ensures (omega arith) in
     (e, t.0, t.1)
 
 pub returns-clause-value : goal.returns-clause-value
