@@ -1,7 +1,7 @@
 # The library for C programs, and the programs with their man pages: make, make install [PREFIX=..] [DESTDIR=..], make uninstall,
 # make check (the gate). Archive and programs are built, and so proved, where a file of the crates is newer; that needs the Rattle
 # toolchain (rt).
-VERSION = 0.11.0
+VERSION = 0.10.0
 PREFIX = /usr/local
 INCLUDEDIR = $(PREFIX)/include
 LIBDIR = $(PREFIX)/lib

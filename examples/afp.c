@@ -1,6 +1,6 @@
 /*
  * Calls the functions of include/hasfandur.h for AFP frames: writes them, reads them, and asks who they are for next, as a relay
- * does (desk.c has the sums and the check sequence). The gate builds it against the archive as C and as C++, runs it, and compares
+ * does (desk.c has more of them, with the sums and the check sequence). The gate builds it against the archive as C and as C++, runs it, and compares
  * what it prints with afp.expected.
  */
 #include "hasfandur.h"

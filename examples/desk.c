@@ -1,7 +1,6 @@
 /*
- * Calls the functions of include/hasfandur.h for QAFT frames, AFP's sums and the check sequence (afp.c has those for AFP frames,
- * link.c those of the DLC link). The gate builds it against the archive as C and as C++, runs it, and compares what it prints with
- * desk.expected.
+ * Calls the functions of include/hasfandur.h for frames: QAFT and AFP (link.c has those of the DLC link). The gate builds it
+ * against the archive as C and as C++, runs it, and compares what it prints with desk.expected.
  */
 #include "hasfandur.h"
 #include "show.h"
@@ -17,7 +16,12 @@ static void write_case(const char *name, uint8_t level, uint8_t kind, bool at_fl
     static uint8_t out[HASFANDUR_QAFT_FCS_MAX_FRAME + 1];
     memset(out, UNTOUCHED, sizeof out);
     hasfandur_written w = hasfandur_qaft_write(level, kind, at_flag, data, length, out, room);
-    print_written(name, w, out, sizeof out);
+    printf("%s: %u, %zu octets", name, (unsigned)w.number, w.length);
+    if (w.length != 0 && w.length <= 8) {
+        printf(":");
+        print_octets(out, w.length);
+    }
+    printf(", the rest %s\n", untouched(out, w.length, sizeof out) ? "as before" : "CHANGED");
 }
 
 static void write_cases(void)
@@ -192,9 +196,63 @@ static void sum_cases(void)
     printf("check sequence of 123456789: %04X\n", (unsigned)hasfandur_check_sequence((const uint8_t *)"123456789", 9));
 }
 
+/* What an answer shows of a frame. */
+static void print_reading(const char *name, const uint8_t *frame, hasfandur_reading r)
+{
+    printf("%s: %u", name, (unsigned)r.number);
+    if (r.number == HASFANDUR_DONE) {
+        printf(", protocol %02X, %zu IDs, next %zu, stations", r.protocol, r.ids, r.next);
+        print_octets(frame + r.stations.place, r.stations.size);
+        printf(", supplementary");
+        print_octets(frame + r.supplementary.place, r.supplementary.size);
+        printf(", data");
+        print_octets(frame + r.payload.place, r.payload.size);
+        printf("%s", r.unchecked ? ", unchecked" : "");
+    }
+    printf("\n");
+}
+
+/* Writes a frame into `room` octets, prints it, and reads it again. */
+static void afp_case(const char *name, uint8_t protocol, const char *stations, size_t stations_length, size_t next,
+                     const char *supplementary, size_t supplementary_length, const char *data, size_t room)
+{
+    uint8_t out[64];
+    memset(out, UNTOUCHED, sizeof out);
+    hasfandur_afp_written w =
+        hasfandur_afp_write(protocol, (const uint8_t *)stations, stations_length, next, (const uint8_t *)supplementary,
+                            supplementary_length, (const uint8_t *)data, strlen(data), out, room);
+    printf("%s: %u, %zu octets", name, (unsigned)w.number, w.length);
+    if (w.length != 0) {
+        printf(":");
+        print_octets(out, w.length);
+    }
+    printf(", the rest %s\n", untouched(out, w.length, sizeof out) ? "as before" : "CHANGED");
+    if (w.number == HASFANDUR_DONE) {
+        print_reading("  read", out, hasfandur_afp_read(out, w.length));
+        out[2] ^= 0x01;
+        print_reading("  read with one bit changed", out, hasfandur_afp_read(out, w.length));
+    }
+}
+
+static void afp_cases(void)
+{
+    /* worked on paper: a broadcast by AB1C, protocol F0 */
+    afp_case("afp broadcast", 0xF0, "\004AB1C", 6, 0, "", 0, "", 64);
+    afp_case("afp to the second ID", 0xF0, "\004AB1C\003X/9", 10, 2, "\000", 1, "hi", 64);
+    afp_case("afp without room", 0xF0, "\004AB1C", 6, 0, "", 0, "", 13);
+    afp_case("afp protocol FE", 0xFE, "\004ab1c", 6, 0, "", 0, "", 64);
+    afp_case("afp lower case", 0xF0, "\004ab1c", 6, 1, "", 0, "", 64);
+    afp_case("afp next 1", 0xF0, "\004AB1C", 6, 1, "\002", 1, "", 64);
+    afp_case("afp options missing", 0xF0, "\001A", 3, 0, "\002", 1, "", 64);
+    afp_case("afp short header", 0xF0, "\001A", 3, 0, "", 0, "", 0);
+    static const uint8_t nothing[1] = {0};
+    print_reading("afp no frame", nothing, hasfandur_afp_read(nothing, 0));
+}
+
 /* No octets, and no place for them. */
 static void null_cases(void)
 {
+    static const uint8_t stations[] = {4, 'A', 'B', '1', 'C', 0};
     static uint8_t buffer[HASFANDUR_QAFT_MAX_SEGMENT], out[64];
     const hasfandur_qaft_reader fresh = hasfandur_qaft_fresh(0, SUM);
     printf("null\n");
@@ -205,6 +263,10 @@ static void null_cases(void)
     print_answer(hasfandur_qaft_read(fresh, NULL, 0, buffer, sizeof buffer), buffer);
     printf("  write %u, %u\n", hasfandur_qaft_write(0, SUM, false, NULL, 0, NULL, 0).number,
            hasfandur_qaft_write(0, SUM, false, out, 1, NULL, 0).number);
+    printf("  afp write %u, %u, %u\n", hasfandur_afp_write(0xF0, NULL, 0, 0, NULL, 0, NULL, 0, NULL, 0).number,
+           hasfandur_afp_write(0xF0, stations, sizeof stations, 0, NULL, 0, NULL, 0, NULL, 0).number,
+           hasfandur_afp_write(0xF0, stations, sizeof stations, 0, NULL, 0, NULL, 0, out, sizeof out).number);
+    printf("  afp read %u\n", hasfandur_afp_read(NULL, 0).number);
 }
 
 /* Any number but 0 in the state's bools stands for true, and is given back so only where the call is refused. */
@@ -235,6 +297,7 @@ int main(void)
     read_fcs_cases();
     number_cases();
     sum_cases();
+    afp_cases();
     null_cases();
     name_cases();
     return 0;

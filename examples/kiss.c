@@ -13,7 +13,12 @@ static void write_case(const char *name, bool at_flag, const uint8_t *payload, s
     static uint8_t out[HASFANDUR_KISS_MAX_FRAME + 1];
     memset(out, UNTOUCHED, sizeof out);
     hasfandur_written w = hasfandur_kiss_write(at_flag, payload, length, out, room);
-    print_written(name, w, out, sizeof out);
+    printf("%s: %u, %zu octets", name, (unsigned)w.number, w.length);
+    if (w.length != 0 && w.length <= 8) {
+        printf(":");
+        print_octets(out, w.length);
+    }
+    printf(", the rest %s\n", untouched(out, w.length, sizeof out) ? "as before" : "CHANGED");
 }
 
 static void write_cases(void)

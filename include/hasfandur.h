@@ -24,8 +24,8 @@ extern "C" {
 
 /* The version, and the same as one number to compare: 10000 for the first part, 100 for the second. */
 /* begin version: written by include/numbers */
-#define HASFANDUR_VERSION "0.11.0"
-#define HASFANDUR_VERSION_NUMBER 1100
+#define HASFANDUR_VERSION "0.10.0"
+#define HASFANDUR_VERSION_NUMBER 1000
 /* end version */
 
 /* On calls that give a state or a link back: who drops it goes on with the old one. */
