@@ -5,6 +5,7 @@ pub mod Meanings
 pub mod Writable
 pub mod ReadProper
 pub mod Changed
+pub mod InOrder
 pub mod Neighbours
 pub mod Looked
 pub mod Receivers
