@@ -26,7 +26,7 @@ all: $(ARCHIVE) $(BUILT)
 
 # its members are named in this file
 $(ARCHIVE): $(SOURCES) Makefile
-	set -e; for member in $(MEMBERS); do (cd crates/$$member && rt lib); done
+	set -e; for member in $(MEMBERS); do echo "== $$member"; (cd crates/$$member && rt lib); done
 	mkdir -p $(dir $@)
 	rm -f $@
 	printf '%s\n' 'create $@' $(foreach member,$(MEMBERS),'addlib crates/$(member)/out/lib$(member).a') save end | ar -M
@@ -34,7 +34,7 @@ $(ARCHIVE): $(SOURCES) Makefile
 # rt builds a program and runs it: here on nothing, and what it says is let go
 $(BUILT) &: $(SOURCES)
 	mkdir -p target/bin
-	set -e; for program in $(PROGRAMS); do (cd crates/$$program && rt run </dev/null >/dev/null); cp crates/$$program/out/$$program target/bin/; done
+	set -e; for program in $(PROGRAMS); do echo "== $$program"; (cd crates/$$program && rt run </dev/null >/dev/null); cp crates/$$program/out/$$program target/bin/; done
 
 install: $(ARCHIVE) $(BUILT)
 	install -d $(dir $(HEADER_AT)) $(dir $(PC_AT)) $(BIN_AT) $(MAN_AT)
