@@ -31,7 +31,7 @@ $(ARCHIVE): $(SOURCES) Makefile
 	rm -f $@
 	printf '%s\n' 'create $@' $(foreach member,$(MEMBERS),'addlib crates/$(member)/out/lib$(member).a') save end | ar -M
 
-# rt builds a program and runs it: here on nothing, and what it says is let go
+# rt builds a program and runs it: here on nothing, and what it prints is let go
 $(BUILT) &: $(SOURCES)
 	mkdir -p target/bin
 	set -e; for program in $(PROGRAMS); do echo "== $$program"; (cd crates/$$program && rt run </dev/null >/dev/null); cp crates/$$program/out/$$program target/bin/; done
