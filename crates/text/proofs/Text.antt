@@ -70,9 +70,9 @@ module _ (n left i : ℕ) (digits : List ℕ) (some : 0 < i) (most : i ≤ max_d
   spell_last h = one_more ∙ sym (decimal_onto-last (i - 1) left (drop i digits) h) ∙ here
 
 -- no place left
-pub spell_end : (n left i : ℕ) (digits : List ℕ) → i ≤ 0 → decimal_onto i left (drop i digits) ≡ decimal n → drop i digits ≡ decimal n
+pub spell_end : (n left i : ℕ) (digits : List ℕ) → i ≤ 0 → decimal_onto i left (drop i digits) ≡ decimal n → digits ≡ decimal n
 unfolding decimal_onto
-spell_end n left i digits h inv = let e : i ≡ 0 = omega arith in sym (ap (λ (k : ℕ). decimal_onto k left (drop i digits)) e) ∙ inv
+spell_end n left i digits h inv = let e : i ≡ 0 = omega arith in sym (ap (λ (k : ℕ). decimal_onto k left (drop k digits)) e) ∙ inv
 
 -- the two digits of one octet
 module _ (out : List ℕ) (to a b : ℕ) (rest xs : List ℕ) (e : xs ≡ a ∷ b ∷ rest) where

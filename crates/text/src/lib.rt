@@ -26,16 +26,14 @@ fn spell(n: u64, digits: &mut [u8]) -> usize
     ensures { (result ≤ max_digits) × (drop result digits.new ≡ decimal n) }
 {
     let mut left = n;
-    let mut i = MAX_DIGITS;
-    while 0 < i {
-        i -= 1;
-        digits[i] = 48 + (left % 10) as u8;
-        left = left / 10;
+    for i in (0..MAX_DIGITS).rev() {
+        digits[i] = b'0' + (left % 10) as u8;
+        left /= 10;
         if left == 0 {
             return i;
         }
     }
-    i
+    0
 }
 
 // Octets in hexadecimal, two digits each.
@@ -58,21 +56,17 @@ fn spell_hex(octets: &[u8], out: &mut [u8], at: usize) -> usize
     ensures value { result ≡ at + length (hex octets.now) }
     ensures out_after { out.new ≡ sets out.old at (hex octets.now) }
 {
-    let mut to = at;
-    let mut i = 0;
-    while i < octets.len() {
-        let x = octets[i];
+    for (i, &x) in octets.iter().enumerate() {
+        let to = at + 2 * i;
         out[to] = hex_digit(x / 16);
         out[to + 1] = hex_digit(x % 16);
-        to += 2;
-        i += 1;
     }
-    to
+    at + 2 * octets.len()
 }
 
 fn hex_digit(n: u8) -> u8
     requires { n < 16 }
     ensures { result ≡ hex_digit n }
 {
-    if n < 10 { 48 + n } else { 55 + n }
+    if n < 10 { b'0' + n } else { b'A' + (n - 10) }
 }

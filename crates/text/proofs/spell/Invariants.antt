@@ -1,13 +1,7 @@
--- `text::spell` meets its contract. The loop's invariant: what is left to spell, before the digits that are there, gives the number. Assumes nothing.
-use Rattle.std.proofs.Common.{◌≤◌, ◌≡◌, length, drop}
+-- `text::spell`: what is left to spell, before the digits that are there, gives the number. Assumes nothing.
+use Rattle.std.proofs.Common.{◌≤◌, ◌≡◌, drop}
 use Rattle.text.specs.Text.{decimal_onto, max_digits, decimal}
 use Rattle.text.proofs.spell.Given as goal
 
 abbrev pub invariant-loop-i : goal.invariant-loop-i
-invariant-loop-i l =
-    (l.i ≤ max_digits)
-    × (length l.digits ≡ length l.initial.digits)
-    × (decimal_onto l.i l.left (drop l.i l.digits) ≡ decimal l.n)
-
-abbrev pub decreases-loop-i : goal.decreases-loop-i
-decreases-loop-i l = l.i
+invariant-loop-i l = (l.i ≤ max_digits) × (decimal_onto l.i l.left (drop l.i l.digits) ≡ decimal l.n)
