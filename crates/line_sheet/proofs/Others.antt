@@ -3,7 +3,7 @@ use Prim.Native.Nat.{ℕ}
 use mathlib.Core.List.{List}
 use mathlib.Core.Path.{◌≡◌, sym, ap, ◌∙◌}
 use Rattle.line_sheet.specs.Sheet.{OthersKept}
-use Rattle.numerals.specs.declared.Typed.{Typed}
+use Rattle.std.specs.Prelude.{Option, Some, None}
 use Rattle.sheet.specs.Tallies.{fresh_tally}
 use Rattle.sheet.specs.declared.Counts.{Counts}
 use Rattle.sheet.specs.declared.Tally.{Tally}
@@ -12,7 +12,7 @@ use Rattle.sheet_table.specs.Table.{record_of, sheet_of}
 use Rattle.sheet_table.specs.declared.Sheet.{Sheet}
 
 -- a capture that was counted for the line that was typed
-pub others_kept : (typed : Typed) (n line : ℕ) (ys : List Tally) (c : Counts) (s : Sheet) → typed ≡ Typed.Number n → s ≡ sheet_of ys line c → line ≡ n → OthersKept typed ys s.lines
+pub others_kept : (typed : Option ℕ) (n line : ℕ) (ys : List Tally) (c : Counts) (s : Sheet) → typed ≡ Some n → s ≡ sheet_of ys line c → line ≡ n → OthersKept typed ys s.lines
 others_kept typed n line ys c s e f here j other =
     ap (λ (s : Sheet). record_of s.lines j) f
-    ∙ tally_others ys line c j fresh_tally (λ (same : j ≡ line). other (e ∙ sym (ap Typed.Number (same ∙ here))))
+    ∙ tally_others ys line c j fresh_tally (λ (same : j ≡ line). other (e ∙ sym (ap Some (same ∙ here))))

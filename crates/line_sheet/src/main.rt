@@ -8,7 +8,6 @@ ghost use Rattle.line_sheet.specs.Levels.{level_of};
 ghost use Rattle.line_sheet.specs.Sheet.{OthersKept};
 ghost use Rattle.numerals.specs.Number.{typed_of};
 
-use numerals::Typed;
 use reading::Capture;
 use sheet::Tally;
 use std::env::{Env, FillError};
@@ -67,10 +66,10 @@ fn typed_level(rt: &HostRuntime, word: &mut [u8]) -> Level {
     }
 }
 
-fn level_of(typed: Typed) -> Level
+fn level_of(typed: Option<usize>) -> Level
     ensures { result ≡ level_of typed }
 {
-    let Typed::Number(n) = typed else {
+    let Some(n) = typed else {
         return Level::None;
     };
     if (qaft::MAX_LEVEL as usize) < n {
@@ -154,7 +153,7 @@ fn with_file(
     ensures { OthersKept (typed_of word.now) table.records result.records }
 {
     let typed = numerals::parse(word);
-    let Typed::Number(line) = typed else {
+    let Some(line) = typed else {
         say::line(rt, name, b"no line number: ", word);
         return table;
     };

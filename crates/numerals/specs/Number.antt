@@ -2,8 +2,7 @@
 --
 --   value_from n xs   the number n with the digits xs behind it
 --   typed_of xs       the number that the octets xs are, or none
-use Rattle.std.specs.Prelude.{ℕ, ◌+◌, ◌*◌, ◌-◌, ◌^◌, Bool, true, ◌&&◌, cond, List, [], ◌∷◌, leb, ltb}
-use Rattle.numerals.specs.declared.Typed.{Typed}
+use Rattle.std.specs.Prelude.{Option, Some, None, ℕ, ◌+◌, ◌*◌, ◌-◌, ◌^◌, Bool, true, ◌&&◌, cond, List, [], ◌∷◌, leb, ltb}
 
 abbrev pub is_digit : ℕ → Bool
 is_digit x = leb 48 x && leb x 57
@@ -17,10 +16,10 @@ value_from n [] = n
 value_from n (x ∷ xs) = value_from (n * 10 + (x - 48)) xs
 
 -- where it is of digits alone, and of 64 bits
-unfoldable pub typed_from : (n : ℕ) → List ℕ → Typed
-typed_from n xs = cond (all_digits xs && ltb (value_from n xs) (2 ^ 64)) (Typed.Number (value_from n xs)) Typed.None
+unfoldable pub typed_from : (n : ℕ) → List ℕ → Option ℕ
+typed_from n xs = cond (all_digits xs && ltb (value_from n xs) (2 ^ 64)) (Some (value_from n xs)) None
 
 -- no octets are no number
-unfoldable pub typed_of : List ℕ → Typed
-typed_of [] = Typed.None
+unfoldable pub typed_of : List ℕ → Option ℕ
+typed_of [] = None
 typed_of (x ∷ xs) = typed_from 0 (x ∷ xs)

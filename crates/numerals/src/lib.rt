@@ -4,40 +4,20 @@
 ghost use Rattle.std.specs.Prelude.{◌≡◌};
 ghost use Rattle.numerals.specs.Number.{typed_of};
 
-#[derive(Clone, Copy)]
-pub enum Typed {
-    Number(usize),
-    None,
-}
-
 // Decimal digits alone, and no more than fit into a number of 64 bits; anything else is none.
-pub fn parse(word: &[u8]) -> Typed
+pub fn parse(word: &[u8]) -> Option<usize>
     ensures { result ≡ typed_of word.now }
 {
-    if word.len() == 0 {
-        return Typed::None;
+    if word.is_empty() {
+        return None;
     }
     let mut n: usize = 0;
-    let mut i = 0;
-    while i < word.len() {
-        let x = wide(word[i]);
-        if x < 48 {
-            return Typed::None;
+    for &octet in word {
+        if !octet.is_ascii_digit() {
+            return None;
         }
-        if 57 < x {
-            return Typed::None;
-        }
-        if (usize::MAX - (x - 48)) / 10 < n {
-            return Typed::None;
-        }
-        n = n * 10 + (x - 48);
-        i += 1;
+        let digit = usize::from(octet - b'0');
+        n = n.checked_mul(10)?.checked_add(digit)?;
     }
-    Typed::Number(n)
-}
-
-fn wide(x: u8) -> usize
-    ensures { result ≡ x }
-{
-    x as usize
+    Some(n)
 }

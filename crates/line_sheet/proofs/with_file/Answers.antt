@@ -4,4 +4,4 @@ use Rattle.line_sheet.proofs.Others.{others_kept}
 use Rattle.line_sheet.proofs.with_file.Goals as goal
 
 pub returns : goal.returns
-returns c = others_kept _ c.in-Number.line _ _ _ _ (sym c.parse-typed.ensures ∙ c.in-Number.is) c.tallied-sheet.ensures (omega arith)
+returns c = others_kept _ c.in-Some.line _ _ _ _ (sym c.parse-typed.ensures ∙ c.in-Some.is) c.tallied-sheet.ensures (omega arith)
