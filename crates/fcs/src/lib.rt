@@ -15,7 +15,7 @@ pub const RESIDUE: u16 = 0xF0B8;
 pub fn feed_octet(register: u16, x: u8) -> u16
     ensures { result ≡ feed register x }
 {
-    let d = register ^ (x as u16);
+    let d = register ^ u16::from(x);
     let t = d << 8;
     let q = t ^ (t << 4);
     (d >> 8) ^ q ^ (q >> 5) ^ (q >> 12)
@@ -56,7 +56,7 @@ fn feed_eight(register: u16, octets: &[u8]) -> u16
     requires { length octets.now ≡ 8 }
     ensures { result ≡ feed_all register octets.now }
 {
-    shift_word(word(octets) ^ (register as u64))
+    shift_word(word(octets) ^ u64::from(register))
 }
 
 // The register after a slice of whole eights.
@@ -115,7 +115,7 @@ fn feed_last(register: u16, octets: &[u8], k: usize) -> u16
     ensures { result ≡ feed_all register (drop (8 - k) octets.now) }
 {
     let s = 64 - 8 * k as u32;
-    shift_word(((word(octets) >> s) ^ (register as u64)) << s)
+    shift_word(((word(octets) >> s) ^ u64::from(register)) << s)
 }
 
 // The register after a slice of any length, so that octets which come in parts can be fed as they come.
