@@ -1,10 +1,21 @@
 -- Octets among which none of several is. Assumes nothing.
-use Prim.Native.Nat.{ℕ}
+use Prim.Native.Nat.{ℕ, ◌+◌}
 use mathlib.Core.Bool.{Bool, true, false, cond, not, ◌&&◌, ◌||◌}
-use mathlib.Core.List.{List, [], ◌∷◌}
+use mathlib.Core.List.{List, [], ◌∷◌, ◌++◌}
 use mathlib.Core.Path.{◌≡◌, refl, sym, ap, ap₂, ◌∙◌}
 use lib.Dec.{eqb}
-use Rattle.common.specs.Plain.{plain}
+use lib.ListN.{length, drop}
+use native.Mathlib.Omega.{arith}
+use Rattle.std.proofs.Common.{Some, None, nat_lt, length-append}
+use Rattle.common.proofs.Plain.{plain_length-within, plain_length-++}
+use borrow.Author.Tests.{ltb-false}
+use lib.Seq.{drop-drop}
+use Rattle.std.proofs.Math.Seq.{drop-append_seam}
+use Rattle.std.specs.List.{position, position_or_len}
+use Rattle.std.proofs.lemmas.List.Quantifiers.{position-Some}
+use Rattle.std.proofs.lemmas.List.Recursion.{is_position_or_len}
+use Rattle.std.proofs.lemmas.List.Sums.{position_or_len_is}
+use Rattle.common.specs.Plain.{plain, plain_length}
 use Rattle.escapes.specs.Escapes.{is_escaped}
 use Rattle.escapes.specs.declared.Escapes.{Escapes}
 
@@ -78,3 +89,32 @@ module _ (e : Escapes) where
             → ((a && b) && (c && d)) ≡ plain (is_escaped e) xs
         by true o r s = plain_four o a b c d p q r s
         by false o r s = ap₂ (λ (f g : Bool). (a && b) && (f && g)) (r ∙ sym p) (s ∙ sym q) ∙ and_twice (a && b) ∙ plain_two o a b p q
+
+-- ---- the first octet that is escaped
+plain_first : (special : ℕ → Bool) (xs : List ℕ) → plain_length special xs ≡ position_or_len special xs
+unfolding plain_length
+plain_first special xs = is_position_or_len (plain_length special) special refl (λ x xs. grind arith) xs
+
+pub plain_some : (special : ℕ → Bool) (xs : List ℕ) (i : ℕ) → position special xs ≡ Some i → plain_length special xs ≡ i
+plain_some special xs i e =
+    let at = position-Some special xs i 0 e in
+    plain_first special xs ∙ position_or_len_is special xs i 0 (omega (arith, at.0)) at.2 (λ _. at.1)
+
+pub plain_none : (special : ℕ → Bool) (xs : List ℕ) → position special xs ≡ None → plain_length special xs ≡ length xs
+plain_none special xs e = by (nat_lt (position_or_len special xs) (length xs)) refl e
+  where
+    by : (b : Bool) → nat_lt (position_or_len special xs) (length xs) ≡ b → cond b (Some (position_or_len special xs)) None ≡ None → plain_length special xs ≡ length xs
+    by true l h = absurd (grind (arith, h))
+    by false l h = omega (arith, plain_length-within special xs, plain_first special xs, ltb-false (position_or_len special xs) (length xs) l)
+
+-- ---- a block more, of which none is escaped
+pub block_more : (special : ℕ → Bool) (n m : ℕ) (xs rest ys zs : List ℕ) → n + length rest ≡ length xs → rest ≡ drop n xs → plain_length special xs ≡ n + plain_length special rest
+    → rest ≡ ys ++ zs → length ys ≡ m → true ≡ plain special ys
+    → (n + m + length zs ≡ length xs) × (zs ≡ drop (n + m) xs) × (plain_length special xs ≡ n + m + plain_length special zs)
+block_more special n m xs rest ys zs h r p j l e =
+    let q : plain_length special rest ≡ length ys + plain_length special zs = ap (plain_length special) j ∙ plain_length-++ special ys zs (sym e) in
+    let k : length rest ≡ length ys + length zs = ap length j ∙ length-append ys zs in (
+      omega arith,
+      sym (drop-append_seam ys zs) ∙ ap (λ (k : ℕ). drop k (ys ++ zs)) l ∙ ap (drop m) (sym j ∙ r) ∙ drop-drop m n xs,
+      omega arith,
+    )

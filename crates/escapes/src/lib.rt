@@ -2,7 +2,7 @@
 // of every framing go by. Definitions: specs/Escapes.
 #![tactic(auto)]
 
-ghost use Rattle.std.specs.Prelude.{cond, ◌≡◌, ◌+◌, ◌≤◌, eqb, length, drop};
+ghost use Rattle.std.specs.Prelude.{cond, ◌≡◌, ◌+◌, ◌≤◌, eqb, length, drop, position};
 ghost use Rattle.common.specs.Plain.{plain, plain_length};
 ghost use Rattle.escapes.specs.Escapes.{is_escaped, is_partner, stands_for};
 
@@ -10,7 +10,7 @@ ghost use Rattle.escapes.specs.Escapes.{is_escaped, is_partner, stands_for};
 const BLOCK: usize = 16;
 
 // The flag and the escape, which are escaped, two more octets, whether these are escaped too, and what stands behind the escape for
-// each.
+// each. The third and the fourth are no Option: stands_for and behind (specs/Escapes) read them whatever `others` says.
 #[derive(Clone, Copy)]
 pub struct Escapes {
     pub flag: u8,
@@ -67,10 +67,15 @@ impl Escapes {
     pub fn all_plain(self, octets: &[u8]) -> bool
         ensures { result ≡ plain (is_escaped self) octets.now }
     {
+        let (third, fourth) = if self.others {
+            (self.third, self.fourth)
+        } else {
+            (self.flag, self.escape)
+        };
         let no_flag = lacks(octets, self.flag);
         let no_escape = lacks(octets, self.escape);
-        let no_third = lacks(octets, one_of(self.others, self.third, self.flag));
-        let no_fourth = lacks(octets, one_of(self.others, self.fourth, self.escape));
+        let no_third = lacks(octets, third);
+        let no_fourth = lacks(octets, fourth);
         (no_flag & no_escape) & (no_third & no_fourth)
     }
 
@@ -88,17 +93,22 @@ impl Escapes {
     }
 
     // How many octets of the front stand before the first that is escaped.
+    #[tactic(auto, using(crate::proofs::Several::plain_some, crate::proofs::Several::plain_none))]
     pub fn plain_length(self, octets: &[u8]) -> usize
         ensures { result ≡ plain_length (is_escaped self) octets.now }
     {
-        let mut n = self.plain_blocks(octets);
-        while n < octets.len() {
-            if self.escapes(octets[n]) {
-                return n;
-            }
-            n += 1;
+        let blocks = self.plain_blocks(octets);
+        let (_, rest) = octets.split_at(blocks);
+        match self.first_escaped(rest) {
+            Some(i) => blocks + i,
+            None => octets.len(),
         }
-        n
+    }
+
+    fn first_escaped(self, octets: &[u8]) -> Option<usize>
+        ensures { result ≡ position (is_escaped self) octets.now }
+    {
+        octets.iter().position(|x| self.escapes(*x))
     }
 
     // How many octets of the front are found plain in whole blocks.
@@ -107,23 +117,14 @@ impl Escapes {
         ensures octets_value { plain_length (is_escaped self) octets.now ≡ result + plain_length (is_escaped self) (drop result octets.now) }
     {
         let mut n = 0;
-        while BLOCK <= octets.len() - n {
-            let next = n + BLOCK;
-            if self.block_plain(&octets[n..next]) {
-                n = next;
-            } else {
+        for block in octets.chunks_exact(BLOCK) {
+            if !self.block_plain(block) {
                 return n;
             }
+            n += BLOCK;
         }
         n
     }
-}
-
-// One of two octets.
-fn one_of(others: bool, x: u8, y: u8) -> u8
-    ensures { result ≡ cond others x y }
-{
-    if others { x } else { y }
 }
 
 // Whether an octet is not among others. All are looked at, so that there is no branch among them.
@@ -131,10 +132,8 @@ fn lacks(octets: &[u8], y: u8) -> bool
     ensures { result ≡ plain (λ x. eqb x y) octets.now }
 {
     let mut so_far = true;
-    let mut i = 0;
-    while i < octets.len() {
-        so_far = so_far & (octets[i] != y);
-        i += 1;
+    for x in octets {
+        so_far &= *x != y;
     }
     so_far
 }

@@ -7,8 +7,8 @@ use native.Mathlib.Numerals.{add-one}
 use native.Mathlib.Omega.{arith}
 use lib.Bits.{bit_xor, differ, xor_lt, xor_zero_l, xor_zero_r, xor_self, xor_comm, xor_shifted}
 use lib.Dec.{lit<}
-use lib.ListN.{length, get_or, take, drop, take-append-drop, drop_of_length-le, length-drop}
-use lib.Seq.{get_or-drop, drop-cons, drop-drop, take_all, length-take-le}
+use lib.ListN.{length, get_or, take, drop, take-append-drop, drop_of_length-le}
+use lib.Seq.{get_or-drop, drop-cons, length-take-le}
 use Rattle.fcs.specs.Fcs.{generator, preset, reduce_if, feed_bit, feed_bits, feed, feed_all, check_sequence}
 use Rattle.fcs.specs.Words.{shift_bit, shift_bits, little_endian}
 use Rattle.common.proofs.Xor.{xor_half, xor_low, xor_parity, xor_assoc, xor_cancel, xor_exchange}
@@ -161,27 +161,27 @@ feeds_lt c [] h = h
 feeds_lt c (x ∷ xs) h = feeds_lt (feed c x) xs (feed_lt c x h)
 
 -- at a place of a list, for the loops
-pub feed-drop : (c : ℕ) (xs : List ℕ) (i : ℕ) → i < length xs → feed_all c (drop i xs) ≡ feed_all (feed c (get_or xs i 0)) (drop (i + 1) xs)
+pub feed_next : (c : ℕ) (xs : List ℕ) (i : ℕ) → i < length xs → feed_all c (drop i xs) ≡ feed_all (feed c (get_or xs i 0)) (drop (i + 1) xs)
 unfolding feed_all
-feed-drop c xs i h = rw (add-one, drop-cons xs i 0)
+feed_next c xs i h = rw (add-one, drop-cons xs i 0)
 
 pub feed_done : (c : ℕ) (xs : List ℕ) (i : ℕ) → length xs ≤ i → feed_all c (drop i xs) ≡ c
 unfolding feed_all
 feed_done c xs i h = rw (drop_of_length-le xs h)
 
-pub feed_part : (c : ℕ) (xs : List ℕ) (i k : ℕ) → feed_all c (drop i xs) ≡ feed_all (feed_all c (take k (drop i xs))) (drop (i + k) xs)
-feed_part c xs i k =
-    ap (feed_all c) (sym (take-append-drop k (drop i xs)))
-    ∙ feed-++ c (take k (drop i xs)) (drop k (drop i xs))
-    ∙ ap (feed_all (feed_all c (take k (drop i xs)))) (drop-drop k i xs)
+pub feed_none : (c : ℕ) (xs : List ℕ) → length xs ≡ 0 → feed_all c xs ≡ c
+unfolding feed_all
+feed_none c [] l = refl
+feed_none c (x ∷ xs) l = absurd (omega arith)
+
+-- some octets more of those that are left
+pub feed_more : (c d w : ℕ) (xs ys zs : List ℕ) → xs ≡ ys ++ zs → d ≡ feed_all c ys → feed_all c xs ≡ w → feed_all d zs ≡ w
+feed_more c d w xs ys zs x e h = ap (λ (d : ℕ). feed_all d zs) e ∙ sym (ap (feed_all c) x ∙ feed-++ c ys zs) ∙ h
 
 -- the first k octets of a list and then those that are left
-pub feed_halves : (d : ℕ) (xs : List ℕ) (k c r : ℕ) → c ≡ feed_all d (take k xs) → r ≡ feed_all c (take (length xs - k) (drop k xs)) → r ≡ feed_all d xs
-feed_halves d xs k c r ce re =
-    re
-    ∙ ap₂ feed_all ce (take_all (length xs - k) (drop k xs) (omega (arith, length-drop k xs)))
-    ∙ sym (feed-++ d (take k xs) (drop k xs))
-    ∙ ap (feed_all d) (take-append-drop k xs)
+pub feed_split : (d k c r : ℕ) (xs ys zs : List ℕ) → ys ≡ take k xs → zs ≡ drop k xs → c ≡ feed_all d ys → r ≡ feed_all c zs → r ≡ feed_all d xs
+feed_split d k c r xs ys zs y z ce re =
+    re ∙ ap₂ feed_all (ce ∙ ap (feed_all d) y) z ∙ sym (feed-++ d (take k xs) (drop k xs)) ∙ ap (feed_all d) (take-append-drop k xs)
 
 -- the register after a list from the preset on, complemented
 pub feed_complement : (xs : List ℕ) (r : ℕ) → r ≡ feed_all preset xs → 0xFFFF - r ≡ check_sequence xs

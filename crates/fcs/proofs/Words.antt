@@ -1,16 +1,17 @@
 -- The code's way to divide by the generator, several bits at once, is the register's, bit by bit. Assumes nothing.
 use mathlib.Core.Path.{◌≡◌, refl, sym, ap, ◌∙◌}
 use mathlib.Core.List.{List, [], ◌∷◌}
-use Prim.Native.Nat.{ℕ, zero, suc, ◌+◌, ◌*◌, ◌/◌, ◌%◌, ◌^◌, ◌<◌}
+use Prim.Native.Nat.{ℕ, ◌+◌, ◌*◌, ◌/◌, ◌%◌, ◌^◌, ◌<◌}
 use native.Mathlib.Nat.{mod-lt}
 use native.Mathlib.Omega.{arith}
 use lib.Bits.{bit_xor, xor_lt, xor_comm}
 use lib.Dec.{T, eqb, lit<}
-use lib.ListN.{length, get_or, drop}
+use lib.ListN.{length, get_or}
+use Rattle.std.specs.Int.{w64, from_le_bytes}
 use Rattle.fcs.specs.Fcs.{feed, feed_all}
 use Rattle.fcs.specs.Words.{shift_bit, shift_bits, little_endian}
 use Rattle.fcs.proofs.Linear.{Linear, linear_id, linear_xor, linear_∘, linear_shl, linear_shr, below, linear_equal}
-use Rattle.fcs.proofs.Register.{Octets, shifts_linear, feed_shift, feeds_word, feed-drop}
+use Rattle.fcs.proofs.Register.{Octets, shifts_linear, feed_shift, feeds_word}
 
 -- a shift up in a word of n bits
 abbrev up : ℕ → ℕ → ℕ → ℕ
@@ -86,26 +87,20 @@ pair_tested = tt
 pair_is : (d : ℕ) → d < 2 ^ 16 → pair_shift d ≡ shift_bits 16 d
 pair_is = linear_equal pair_shift (shift_bits 16) pair_linear (shifts_linear 16) 16 pair_tested
 
-two_octets : (x y : ℕ) → x < 256 → y < 256 → Octets (x ∷ y ∷ [])
-two_octets x y hx hy zero = hx
-two_octets x y hx hy (suc zero) = hy
-two_octets x y hx hy (suc (suc i)) = omega arith
+two_word : (xs : List ℕ) → length xs ≡ 2 → get_or xs 0 0 + get_or xs 1 0 * 256 ≡ little_endian xs
+unfolding little_endian
+two_word (x ∷ y ∷ []) l = omega arith
+two_word [] l = absurd (omega arith)
+two_word (x ∷ []) l = absurd (omega arith)
+two_word (x ∷ y ∷ z ∷ xs) l = absurd (omega arith)
 
-pub pair_fed : (c x y w : ℕ) → c < 2 ^ 16 → x < 256 → y < 256 → w ≡ x + y * 256 → pair_shift (bit_xor c w) ≡ feed (feed c x) y
-unfolding feed_all little_endian
-pair_fed c x y w hc hx hy e =
-    let l : x + (y + 0 * 256) * 256 ≡ w = omega arith in
-    pair_is (bit_xor c w) (xor_lt 16 c w hc (omega arith))
-    ∙ ap (λ (v : ℕ). shift_bits 16 (bit_xor c v)) (sym l)
-    ∙ sym (feeds_word c (x ∷ y ∷ []) (two_octets x y hx hy))
-
--- the loop over pairs: two octets more
-pub feed_two : (c : ℕ) (xs : List ℕ) (i : ℕ) → i + 1 < length xs → feed_all c (drop i xs) ≡ feed_all (feed (feed c (get_or xs i 0)) (get_or xs (i + 1) 0)) (drop (i + 2) xs)
-feed_two c xs i h =
-    let e : i + 1 + 1 ≡ i + 2 = omega arith in
-    feed-drop c xs i (omega arith)
-    ∙ feed-drop (feed c (get_or xs i 0)) xs (i + 1) h
-    ∙ ap (λ (j : ℕ). feed_all (feed (feed c (get_or xs i 0)) (get_or xs (i + 1) 0)) (drop j xs)) e
+-- the register after two octets, by their number w
+pub pair_fed : (c w : ℕ) (xs : List ℕ) → c < 2 ^ 16 → Octets xs → length xs ≡ 2 → w ≡ get_or xs 0 0 + get_or xs 1 0 * 256 → pair_shift (bit_xor c w) ≡ feed_all c xs
+pair_fed c w xs hc o l we =
+    let n : 8 * length xs ≡ 16 = omega arith in
+    pair_is (bit_xor c w) (xor_lt 16 c w hc (omega (arith, o 0, o 1)))
+    ∙ ap (λ (w : ℕ). shift_bits 16 (bit_xor c w)) (we ∙ two_word xs l)
+    ∙ sym (feeds_word c xs o ∙ ap (λ (k : ℕ). shift_bits k (bit_xor c (little_endian xs))) n)
 
 -- ---- 64 bits of the register
 -- f, and the word x moved up by each of the ks, added
@@ -192,11 +187,10 @@ eight (a ∷ b ∷ c ∷ d ∷ e ∷ f ∷ []) l = absurd (omega arith)
 eight (a ∷ b ∷ c ∷ d ∷ e ∷ f ∷ g ∷ []) l = absurd (omega arith)
 eight (a ∷ b ∷ c ∷ d ∷ e ∷ f ∷ g ∷ h ∷ i ∷ xs) l = absurd (omega arith)
 
-pub eight_word : (xs : List ℕ) (p q r s : ℕ) → length xs ≡ 8
-    → p ≡ get_or xs 0 0 + get_or xs 1 0 * 256 → q ≡ get_or xs 2 0 + get_or xs 3 0 * 256 → r ≡ get_or xs 4 0 + get_or xs 5 0 * 256 → s ≡ get_or xs 6 0 + get_or xs 7 0 * 256
-    → p + q * 0x10000 + (r + s * 0x10000) * 0x100000000 ≡ little_endian xs
+pub eight_word : (xs : List ℕ) → length xs ≡ 8
+    → from_le_bytes w64 (get_or xs 0 0 ∷ get_or xs 1 0 ∷ get_or xs 2 0 ∷ get_or xs 3 0 ∷ get_or xs 4 0 ∷ get_or xs 5 0 ∷ get_or xs 6 0 ∷ get_or xs 7 0 ∷ []) ≡ little_endian xs
 unfolding little_endian
-eight_word xs p q r s l a b c d = sym (ap little_endian (eight xs l) ∙ omega arith)
+eight_word xs l = sym (ap little_endian (eight xs l) ∙ omega arith)
 
 -- the register after eight octets, by their number w
 pub eight_fed : (c w r : ℕ) (xs : List ℕ) → Octets xs → length xs ≡ 8 → w ≡ little_endian xs → r ≡ shift_bits 64 (bit_xor w c) → r ≡ feed_all c xs

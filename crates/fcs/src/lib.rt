@@ -10,29 +10,23 @@ pub const PRESET: u16 = 0xFFFF;
 
 pub const RESIDUE: u16 = 0xF0B8;
 
-// Two octets as one number.
-fn pair(low: u8, high: u8) -> u64
-    ensures { (result ≡ low + high * 256) × (result < 65536) }
-{
-    low as u64 + high as u64 * 0x100
-}
-
 // The register after one octet. The octet that leaves it is divided by the generator: its quotient q is t (1 + x^4),
 // cut off after eight bits, and q (1 + x^5 + x^12) is what the division leaves.
 pub fn feed_octet(register: u16, x: u8) -> u16
     ensures { result ≡ feed register x }
 {
-    let d = register ^ (x as u16);
+    let d = register ^ u16::from(x);
     let t = d << 8;
     let q = t ^ (t << 4);
     (d >> 8) ^ q ^ (q >> 5) ^ (q >> 12)
 }
 
 // The same for two octets, which fill the register. The quotient is d (1 + x^4 + x^11) (1 + x^8), cut off after sixteen bits.
-fn feed_pair(register: u16, low: u8, high: u8) -> u16
-    ensures { result ≡ feed (feed register low) high }
+fn feed_pair(register: u16, octets: &[u8]) -> u16
+    requires { length octets.now ≡ 2 }
+    ensures { result ≡ feed_all register octets.now }
 {
-    let d = register ^ (pair(low, high) as u16);
+    let d = register ^ u16::from_le_bytes([octets[0], octets[1]]);
     let a = d ^ (d << 4) ^ (d << 11);
     let q = a ^ (a << 8);
     q ^ (q >> 5) ^ (q >> 12)
@@ -54,9 +48,7 @@ fn word(o: &[u8]) -> u64
     requires { length o.now ≡ 8 }
     ensures { result ≡ little_endian o.now }
 {
-    let low = pair(o[0], o[1]) + pair(o[2], o[3]) * 0x1_0000;
-    let high = pair(o[4], o[5]) + pair(o[6], o[7]) * 0x1_0000;
-    low + high * 0x1_0000_0000
+    u64::from_le_bytes([o[0], o[1], o[2], o[3], o[4], o[5], o[6], o[7]])
 }
 
 // The register after eight octets.
@@ -64,59 +56,55 @@ fn feed_eight(register: u16, octets: &[u8]) -> u16
     requires { length octets.now ≡ 8 }
     ensures { result ≡ feed_all register octets.now }
 {
-    shift_word(word(octets) ^ (register as u64))
+    shift_word(word(octets) ^ u64::from(register))
 }
 
 // The register after a slice of whole eights.
+#[tactic(auto, using(crate::proofs::Register::feed_more, crate::proofs::Register::feed_none))]
 fn feed_eights(register: u16, octets: &[u8]) -> u16
     requires { length octets.now % 8 ≡ 0 }
     ensures { result ≡ feed_all register octets.now }
 {
     let mut c = register;
-    let mut i: usize = 0;
-    while i < octets.len() {
-        let next = i + 8;
-        c = feed_eight(c, &octets[i..next]);
-        i = next;
+    for eight in octets.chunks_exact(8) {
+        c = feed_eight(c, eight);
     }
     c
 }
 
 // The register after a slice of whole pairs.
+#[tactic(auto, using(crate::proofs::Register::feed_more, crate::proofs::Register::feed_none))]
 fn feed_pairs(register: u16, octets: &[u8]) -> u16
     requires { length octets.now % 2 ≡ 0 }
     ensures { result ≡ feed_all register octets.now }
 {
     let mut c = register;
-    let mut i: usize = 0;
-    while i < octets.len() {
-        c = feed_pair(c, octets[i], octets[i + 1]);
-        i += 2;
+    for pair in octets.chunks_exact(2) {
+        c = feed_pair(c, pair);
     }
     c
 }
 
 // The register after a slice, octet by octet.
+#[tactic(auto, using(crate::proofs::Register::feed_next, crate::proofs::Register::feed_done))]
 fn feed_octets(register: u16, octets: &[u8]) -> u16
     ensures { result ≡ feed_all register octets.now }
 {
     let mut c = register;
-    let mut i: usize = 0;
-    while i < octets.len() {
-        c = feed_octet(c, octets[i]);
-        i += 1;
+    for x in octets {
+        c = feed_octet(c, *x);
     }
     c
 }
 
 // The register after a slice, by pairs, and by itself where an octet is left.
+#[tactic(auto, using(crate::proofs::Register::feed_split))]
 fn feed_rest(register: u16, octets: &[u8]) -> u16
     ensures { result ≡ feed_all register octets.now }
 {
     let n = octets.len();
-    let even = n - n % 2;
-    let c = feed_pairs(register, &octets[..even]);
-    feed_octets(c, &octets[even..])
+    let (pairs, last) = octets.split_at(n - n % 2);
+    feed_octets(feed_pairs(register, pairs), last)
 }
 
 // The register after the last k of eight octets, two to eight. They are moved to the top of a word, so that what leaves the register
@@ -127,23 +115,24 @@ fn feed_last(register: u16, octets: &[u8], k: usize) -> u16
     ensures { result ≡ feed_all register (drop (8 - k) octets.now) }
 {
     let s = 64 - 8 * k as u32;
-    shift_word(((word(octets) >> s) ^ (register as u64)) << s)
+    shift_word(((word(octets) >> s) ^ u64::from(register)) << s)
 }
 
 // The register after a slice of any length, so that octets which come in parts can be fed as they come.
 // Whole eights first, since a word takes one division; of the fewer than eight that are left, two or more take one too.
+#[tactic(auto, using(crate::proofs::Register::feed_split))]
 pub fn feed(register: u16, octets: &[u8]) -> u16
     ensures { result ≡ feed_all register octets.now }
 {
     let n = octets.len();
     let k = n % 8;
-    let whole = n - k;
-    let c = feed_eights(register, &octets[..whole]);
-    if whole == 0 {
-        return feed_rest(c, &octets[whole..]);
+    let (eights, rest) = octets.split_at(n - k);
+    let c = feed_eights(register, eights);
+    if eights.is_empty() {
+        return feed_rest(c, rest);
     }
     if k < 2 {
-        return feed_octets(c, &octets[whole..]);
+        return feed_octets(c, rest);
     }
     feed_last(c, &octets[n - 8..], k)
 }

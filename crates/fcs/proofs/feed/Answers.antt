@@ -1,18 +1,11 @@
 -- `fcs::feed`: whole eights, and what is left by the way that it takes.
-use Rattle.std.proofs.Common.{◌-◌, ◌%◌, length, arith}
+use Rattle.std.proofs.Common.{◌≤◌, length, ap, ◌∙◌, arith}
+use Rattle.fcs.specs.Fcs.{feed_all}
 use Rattle.fcs.proofs.Last.{last_part}
-use Rattle.fcs.proofs.Register.{feed_halves}
 use Rattle.fcs.proofs.feed.Goals as goal
 
-pub returns-then-whole-eq0 : goal.returns-then-whole-eq0
-returns-then-whole-eq0 c =
-    let xs = c.args.octets.now in
-    feed_halves _ xs (length xs - length xs % 8) _ _ c.feed_eights-c.ensures (omega (arith, c.feed_rest.ensures))
-
-pub returns-then-k-lt2 : goal.returns-then-k-lt2
-returns-then-k-lt2 c =
-    let xs = c.args.octets.now in
-    feed_halves _ xs (length xs - length xs % 8) _ _ c.feed_eights-c.ensures (omega (arith, c.feed_octets.ensures))
-
 pub returns : goal.returns
-returns c = last_part _ c.args.octets.now _ _ (omega (arith, c.if-whole-eq0.false)) c.feed_eights-c.ensures c.feed_last.ensures
+returns c =
+    let s = c.split_at.ensures in
+    let some : 8 ≤ length c.args.octets.now = grind (arith, c.if-is_empty.false, c.is_empty.ensures, s.front_len) in
+    last_part c.args.register c.args.octets.now _ _ some (c.feed_eights-c.ensures ∙ ap (feed_all c.args.register) s.front) c.feed_last.ensures

@@ -5,4 +5,4 @@ use Rattle.fcs.proofs.feed_octet.Goals as goal
 
 pub returns : goal.returns
 unfolding octet_shift
-returns c = octet_fed c.args.register c.args.x (omega arith) (omega arith)
+returns c = rw c.from.ensures (octet_fed c.args.register c.args.x (omega arith) (omega arith))

@@ -5,4 +5,5 @@ use Rattle.fcs.proofs.feed_pair.Goals as goal
 
 pub returns : goal.returns
 unfolding pair_shift
-returns c = pair_fed c.args.register c.args.low c.args.high c.pair.result (omega arith) (omega arith) (omega arith) c.pair.ensures.0
+returns c =
+    pair_fed c.args.register c.from_le_bytes.result c.args.octets.now (omega arith) (λ i. omega (arith, c.type_inv.octets i)) c.requires c.from_le_bytes.ensures

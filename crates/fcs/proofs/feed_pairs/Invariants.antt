@@ -1,12 +1,9 @@
--- `fcs::feed_pairs` meets its contract. The invariant: the register so far, with the octets that are left, gives the register after all.
-use mathlib.Core.Path.{◌≡◌}
-use Prim.Native.Nat.{◌-◌, ◌%◌, ◌^◌, ◌≤◌, ◌<◌}
-use lib.ListN.{length, drop}
+-- The register so far, with the octets that are left, gives the register after all.
+use Rattle.std.proofs.Common.{◌≡◌, ◌%◌, length}
 use Rattle.fcs.specs.Fcs.{feed_all}
 use Rattle.fcs.proofs.feed_pairs.Given as goal
 
-abbrev pub invariant-loop-i : goal.invariant-loop-i
-invariant-loop-i l = (l.i ≤ length l.octets) × (l.i % 2 ≡ 0) × (l.c < 2 ^ 16) × (feed_all l.c (drop l.i l.octets) ≡ feed_all l.register l.octets)
-
-abbrev pub decreases-loop-i : goal.decreases-loop-i
-decreases-loop-i l = length l.octets - l.i
+abbrev pub invariant-loop-pair : goal.invariant-loop-pair
+invariant-loop-pair l =
+    let it = l.pair-iterator in
+    (it.size ≡ 2) × (length it.rest.now % 2 ≡ 0) × (feed_all l.c it.rest.now ≡ feed_all l.register l.octets)
