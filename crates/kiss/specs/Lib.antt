@@ -1,4 +1,5 @@
 pub mod Answers
+pub mod Refusal
 pub mod Limits
 pub mod Octets
 pub mod Frame

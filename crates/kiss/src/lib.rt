@@ -4,6 +4,7 @@
 
 ghost use Rattle.std.specs.Prelude.{◌≡◌};
 ghost use Rattle.kiss.specs.Octets.{escapes};
+ghost use Rattle.kiss.specs.Refusal.{refusal_number};
 
 use escapes::Escapes;
 
@@ -37,6 +38,39 @@ pub const LONG: u8 = 62;
 pub const SKIPPED: u8 = 63;
 
 pub const OUT_TOO_SMALL: u8 = 64;
+
+// Why a writer or a reader refuses a call.
+#[derive(Clone, Copy, Debug, PartialEq, Eq)]
+pub enum Refusal {
+    NoData,
+    DataTooLong,
+    OutTooSmall,
+    BufferTooSmall,
+    BadState,
+}
+
+impl Refusal {
+    // The number given back for it: QAFT's, but for an out buffer that is too small.
+    pub fn number(self) -> u8
+        ensures { result ≡ refusal_number self }
+    {
+        match self {
+            Refusal::NoData => qaft::NO_DATA,
+            Refusal::DataTooLong => qaft::DATA_TOO_LONG,
+            Refusal::OutTooSmall => OUT_TOO_SMALL,
+            Refusal::BufferTooSmall => qaft::BUFFER_TOO_SMALL,
+            Refusal::BadState => qaft::BAD_STATE,
+        }
+    }
+}
+
+impl From<Refusal> for u8 {
+    ghost from_gives = { λ refusal n. n ≡ refusal_number refusal };
+
+    fn from(refusal: Refusal) -> u8 {
+        refusal.number()
+    }
+}
 
 // The octets that are escaped: two, which stand there twice. Where many octets are escaped the writer goes without a branch; of a test
 // of two octets alone the compiler makes one again.

@@ -2,9 +2,10 @@
 // escapes, and the check. Definitions: specs/Escape, specs/Limits, specs/Check; a frame and a line of frames: specs/Frame.
 #![tactic(auto)]
 
-ghost use Rattle.std.specs.Prelude.{◌≡◌, ◌-◌, ◌%◌};
+ghost use Rattle.std.specs.Prelude.{◌≡◌};
 ghost use Rattle.qaft.specs.Escape.{escapes_of};
 ghost use Rattle.qaft.specs.Check.{check_octet, check_pair};
+ghost use Rattle.qaft.specs.Refusal.{refusal_number};
 ghost use Rattle.qaft.specs.Limits.{check_size, max_segment_of};
 
 use escapes::Escapes;
@@ -71,6 +72,43 @@ pub const USED_UP: u8 = 15;
 
 pub const BAD_PAIR: u8 = 16;
 
+// Why a writer or a reader refuses a call.
+#[derive(Clone, Copy, Debug, PartialEq, Eq)]
+pub enum Refusal {
+    NoData,
+    DataTooLong,
+    OutTooSmall,
+    BufferTooSmall,
+    BadState,
+    BadLevel,
+    BadKind,
+}
+
+impl Refusal {
+    // The number given back for it.
+    pub fn number(self) -> u8
+        ensures { result ≡ refusal_number self }
+    {
+        match self {
+            Refusal::NoData => NO_DATA,
+            Refusal::DataTooLong => DATA_TOO_LONG,
+            Refusal::OutTooSmall => OUT_TOO_SMALL,
+            Refusal::BufferTooSmall => BUFFER_TOO_SMALL,
+            Refusal::BadState => BAD_STATE,
+            Refusal::BadLevel => BAD_LEVEL,
+            Refusal::BadKind => BAD_KIND,
+        }
+    }
+}
+
+impl From<Refusal> for u8 {
+    ghost from_gives = { λ refusal n. n ≡ refusal_number refusal };
+
+    fn from(refusal: Refusal) -> u8 {
+        refusal.number()
+    }
+}
+
 // The octets that a level escapes.
 #[tactic(auto, unfolding(crate::specs::Escape::escapes_of))]
 pub fn escapes(level: u8) -> Escapes
@@ -89,19 +127,12 @@ pub fn escapes(level: u8) -> Escapes
     }
 }
 
-// The wrapping negate: the two's complement of an octet.
-fn wrapping_neg_u8(x: u8) -> u8
-    ensures { result ≡ (256 - x % 256) % 256 }
-{
-    std::num::wrapping_sub_u8(0, x)
-}
-
 // The check octet of a frame's data: the two's complement of their sum modulo 256.
 #[tactic(auto, unfolding(crate::specs::Check::check_octet))]
 pub fn check_octet(octets: &[u8]) -> u8
     ensures { result ≡ check_octet octets.now }
 {
-    wrapping_neg_u8(octets::sum(octets))
+    octets::sum(octets).wrapping_neg()
 }
 
 // The check octets of a frame's data in two places, of which the first `check_size` are meant; the other is 0. Of the check sequence the
@@ -111,8 +142,7 @@ pub fn check_octets(kind: u8, octets: &[u8]) -> [u8; 2]
     ensures { result ≡ check_pair kind octets.now }
 {
     if kind == FCS {
-        let sequence = fcs::check_sequence(octets);
-        return [(sequence % 256) as u8, (sequence / 256) as u8];
+        return fcs::check_sequence(octets).to_le_bytes();
     }
     [check_octet(octets), 0]
 }

@@ -8,18 +8,12 @@ ghost use Rattle.truths.specs.Truths.{truth, bit};
 pub fn truth(n: u8) -> bool
     ensures { result ≡ truth n }
 {
-    if n == 0 {
-        return false;
-    }
-    true
+    n != 0
 }
 
 // True is given back as 1.
 pub fn bit(b: bool) -> u8
     ensures { result ≡ bit b }
 {
-    if b {
-        return 1;
-    }
-    0
+    u8::from(b)
 }

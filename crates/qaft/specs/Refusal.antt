@@ -1,0 +1,14 @@
+-- QAFT: the number given back for a refusal. Cited by the contracts of writer and reader. Assumes nothing.
+use Rattle.std.specs.Prelude.{ℕ}
+use Rattle.qaft.specs.Answers.{no_data, data_too_long, out_too_small, buffer_too_small, bad_state, bad_level, bad_kind}
+use Rattle.qaft.specs.declared.Refusal.{Refusal}
+use Rattle.qaft.specs.declared.Refusal.TheVariants.{NoData, DataTooLong, OutTooSmall, BufferTooSmall, BadState, BadLevel, BadKind}
+
+abbrev pub refusal_number : Refusal → ℕ
+refusal_number NoData = no_data
+refusal_number DataTooLong = data_too_long
+refusal_number OutTooSmall = out_too_small
+refusal_number BufferTooSmall = buffer_too_small
+refusal_number BadState = bad_state
+refusal_number BadLevel = bad_level
+refusal_number BadKind = bad_kind
