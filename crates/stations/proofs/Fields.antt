@@ -149,6 +149,9 @@ pub on-length-id : (w n : ℕ) (s : List ℕ) (p m : ℕ) (x : Next) (all : Stat
     → (q ≤ length s) × (p + 2 ≤ q) × (stations_from w n q (m + 1) (next_after w n p (m + 1) (take (q - p) (drop p s)) x) 0 (drop q s) ≡ all)
 on-length-id w n s p m x all inv q e = let t = field_stepped w n s p m x all inv (Id q) e in (t.0, t.1, sym t.2)
 
+pub id_within : (s : List ℕ) (p q : ℕ) → Id q ≡ field_at s p → (q ≤ length s) × (p + 2 ≤ q)
+id_within s p q e = let t = on-length-id 0 0 s p 0 no_next (stations_from 0 0 p 0 no_next 0 (drop p s)) refl q e in (t.0, t.1)
+
 pub closed_none : (p m : ℕ) (x : Next) → m ≡ 0 → closed_at p m x ≡ malformed
 unfolding closed_at
 closed_none p m x h = ap (λ (b : Bool). cond b malformed (record { end = p + 1; count = m; next = x })) (eq-eqb m 0 h)

@@ -3,7 +3,6 @@ pub mod Offset
 pub mod Search
 pub mod Fields
 pub mod FieldAt
-pub mod NextAfter
 pub mod IdList
 pub mod NextField
 pub mod FieldPlace

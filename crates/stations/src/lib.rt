@@ -1,8 +1,8 @@
 // The station fields of an AFP header, and which of them is the next station.
 #![tactic(auto)]
 
-ghost use Rattle.std.specs.Prelude.{◌≡◌, ◌-◌, ◌≤◌, eqb, length, take, drop};
-ghost use Rattle.stations.specs.Fields.{no_next, malformed, next_after, stations_of, next_offset, lacks_next};
+ghost use Rattle.std.specs.Prelude.{◌≡◌, eqb};
+ghost use Rattle.stations.specs.Fields.{next_after, stations_of, next_offset, lacks_next};
 ghost use Rattle.stations.specs.FieldAt.{field_at};
 
 // Where the station fields begin in a frame.
@@ -25,6 +25,18 @@ pub struct Stations {
     pub next: Next,
 }
 
+const NO_NEXT: Next = Next {
+    number: 0,
+    index: 0,
+    sum: sums::BROADCAST_SUM,
+};
+
+const NO_STATIONS: Stations = Stations {
+    end: 0,
+    count: 0,
+    next: NO_NEXT,
+};
+
 // What stands at an index of the station fields: an ID with the index behind it.
 #[derive(Clone, Copy)]
 pub enum Field {
@@ -33,36 +45,57 @@ pub enum Field {
     Malformed,
 }
 
+// The next station that is wanted: the one whose field begins at the index `pointed`, or the one of the number `numbered`.
+#[derive(Clone, Copy)]
+struct Wanted {
+    pointed: usize,
+    numbered: usize,
+}
+
 // The station fields at the front of a slice; the next station is the one at the index `pointed` or with the number `numbered`.
+#[tactic(auto, using(crate::proofs::Fields::id_within))]
 pub fn parse(fields: &[u8], pointed: usize, numbered: usize) -> Stations
     ensures { result ≡ stations_of pointed numbered fields.now }
 {
+    let wanted = Wanted { pointed, numbered };
     let mut index: usize = 0;
     let mut count: usize = 0;
-    let mut next = no_next();
-    while index < fields.len() {
+    let mut next = NO_NEXT;
+    loop {
         match field_at(fields, index) {
-            Field::Malformed => {
-                return no_stations();
+            Field::Id(end) => {
+                count += 1;
+                next = wanted.next_after(next, index, count, &fields[index..end]);
+                index = end;
             }
             Field::Closing => {
                 if count == 0 {
-                    return no_stations();
+                    return NO_STATIONS;
                 }
                 return Stations {
                     end: index + 1,
-                    count: count,
-                    next: next,
+                    count,
+                    next,
                 };
             }
-            Field::Id(end) => {
-                count += 1;
-                next = next_after(next, fields, index, end, count, pointed, numbered);
-                index = end;
-            }
+            Field::Malformed => return NO_STATIONS,
         }
     }
-    no_stations()
+}
+
+impl Wanted {
+    // The next station once the ID of this number is passed, whose field begins at this index.
+    #[tactic(auto, unfolding(crate::specs::Fields::next_after))]
+    fn next_after(self, next: Next, index: usize, number: usize, field: &[u8]) -> Next
+        ensures { result ≡ next_after self.pointed self.numbered index number field.now next }
+    {
+        if number != 1 && next.number == 0 && (index == self.pointed || number == self.numbered) {
+            let sum = sums::next_station_sum(field);
+            Next { number, index, sum }
+        } else {
+            next
+        }
+    }
 }
 
 // What stands at an index of the station fields; an ID lies wholly within them.
@@ -72,7 +105,7 @@ pub fn field_at(fields: &[u8], index: usize) -> Field
     if fields.len() <= index {
         return Field::Malformed;
     }
-    let length = size(fields[index]);
+    let length = usize::from(fields[index]);
     if length == 0 {
         return Field::Closing;
     }
@@ -82,104 +115,29 @@ pub fn field_at(fields: &[u8], index: usize) -> Field
         return Field::Malformed;
     }
     let end = start + length;
-    let id = &fields[start..end];
-    if ids::valid_id(id) {
+    if ids::valid_id(&fields[start..end]) {
         Field::Id(end)
     } else {
         Field::Malformed
     }
 }
 
-// The next station once the ID of this number is passed, whose field stands from `index` to `end`.
-fn next_after(
-    next: Next,
-    fields: &[u8],
-    index: usize,
-    end: usize,
-    number: usize,
-    pointed: usize,
-    numbered: usize,
-) -> Next
-    requires { (index ≤ end) × (end ≤ length fields.now) }
-    ensures { result ≡ next_after pointed numbered index number (take (end - index) (drop index fields.now)) next }
-{
-    if number == 1 {
-        return next;
-    }
-    let found = next.number;
-    if found != 0 {
-        return next;
-    }
-    if index == pointed {
-        let sum = sums::next_station_sum(&fields[index..end]);
-        return Next {
-            number: number,
-            index: index,
-            sum: sum,
-        };
-    }
-    if number == numbered {
-        let sum = sums::next_station_sum(&fields[index..end]);
-        return Next {
-            number: number,
-            index: index,
-            sum: sum,
-        };
-    }
-    next
-}
-
-fn no_next() -> Next
-    ensures { result ≡ no_next }
-{
-    Next {
-        number: 0,
-        index: 0,
-        sum: sums::BROADCAST_SUM,
-    }
-}
-
-fn no_stations() -> Stations
-    ensures { result ≡ malformed }
-{
-    Stations {
-        end: 0,
-        count: 0,
-        next: no_next(),
-    }
-}
-
 // Whether an octet 4 is right for a next station.
+#[tactic(auto, unfolding(crate::specs::Fields::next_offset))]
 pub fn offset_is(octet: u8, next: Next) -> bool
     ensures { result ≡ eqb octet (next_offset next) }
 {
-    let number = next.number;
-    if number == 0 {
-        return octet == 0;
+    if next.number == 0 {
+        octet == 0
+    } else {
+        usize::from(octet).checked_sub(FIELDS_AT) == Some(next.index)
     }
-    let place = size(octet);
-    if place < FIELDS_AT {
-        return false;
-    }
-    let index = next.index;
-    place - FIELDS_AT == index
 }
 
 // Whether there are several IDs and none of them is next.
+#[tactic(auto, unfolding(crate::specs::Fields::lacks_next))]
 pub fn lacks_next(stations: Stations) -> bool
     ensures { result ≡ lacks_next stations }
 {
-    let count = stations.count;
-    if count == 1 {
-        return false;
-    }
-    let next = stations.next;
-    let number = next.number;
-    number == 0
-}
-
-fn size(octet: u8) -> usize
-    ensures { result ≡ octet }
-{
-    octet as usize
+    stations.count != 1 && stations.next.number == 0
 }

@@ -1,7 +1,7 @@
 -- Laws of the sums. Assumes nothing.
-use Rattle.std.proofs.Common.{◌≡◌, ℕ, ◌+◌, ◌<◌, ◌≤◌, Bool, true, false, cond, eqb, List, [], ◌∷◌, ◌++◌, length, get_or, drop, refl, add-one, arith, drop_of_length-le, drop-cons, eq-eqb, ne_eqb}
+use Rattle.std.proofs.Common.{◌≡◌, ℕ, ◌+◌, ◌<◌, ◌≤◌, Bool, true, false, cond, eqb, List, [], ◌∷◌, ◌++◌, length, get_or, drop, refl, add-one, arith, drop_of_length-le, drop-cons}
 use borrow.Author.Tests.{eqb-false}
-use Rattle.sums.specs.Sum.{end_around_add, sum_from, next_station_sum, header_sum}
+use Rattle.sums.specs.Sum.{end_around_add, sum_from, header_sum}
 
 -- feeding two parts one after the other is feeding the whole
 pub sum-++ : (s : ℕ) (xs ys : List ℕ) → sum_from s (xs ++ ys) ≡ sum_from (sum_from s xs) ys
@@ -18,23 +18,10 @@ pub sum_done : (s : ℕ) (xs : List ℕ) (i : ℕ) → length xs ≤ i → sum_f
 unfolding sum_from
 sum_done s xs i h = rw (drop_of_length-le xs h)
 
--- the forms in which a header holds its sums, by the sum that was calculated
-module _ (xs : List ℕ) (s : ℕ) (e : s ≡ sum_from 0 xs) where
-  pub next_station_FF : s ≡ 0xFF → 0 ≡ next_station_sum xs
-  unfolding next_station_sum
-  next_station_FF h = rw (← e, eq-eqb s 0xFF h)
-
-  pub next_station_other : (s ≡ 0xFF → ⊥) → s ≡ next_station_sum xs
-  unfolding next_station_sum
-  next_station_other h = rw (← e, ne_eqb s 0xFF h)
-
-  pub header_0 : s ≡ 0 → 0xFF ≡ header_sum xs
-  unfolding header_sum
-  header_0 h = rw (← e, eq-eqb s 0 h)
-
-  pub header_other : (s ≡ 0 → ⊥) → s ≡ header_sum xs
-  unfolding header_sum
-  header_other h = rw (← e, ne_eqb s 0 h)
+pub sum_none : (s : ℕ) (xs : List ℕ) → length xs ≡ 0 → sum_from s xs ≡ s
+unfolding sum_from
+sum_none s [] h = refl
+sum_none s (x ∷ xs) h = absurd (omega arith)
 
 -- a calculated header sum is never taken for one that was not calculated
 pub header_calculated : (xs : List ℕ) → header_sum xs ≡ 0 → ⊥

@@ -1,6 +1,7 @@
 -- Laws of totals. Assumes nothing.
-use Rattle.std.proofs.Common.{◌≡◌, ℕ, zero, suc, ◌+◌, ◌-◌, ◌*◌, ◌%◌, ◌<◌, ◌≤◌, List, length, get_or, take, drop, sym, refl, ap, ◌∙◌, ap₂, arith, length-drop, take-append-drop, length-take-le, take_all, drop-drop, eq-eqb, ne_eqb}
-use Rattle.sums.proofs.Sum.{sum-++, sum_drop, sum_done}
+use Rattle.std.proofs.Common.{◌≡◌, ℕ, zero, suc, ◌+◌, ◌-◌, ◌*◌, ◌%◌, ◌<◌, List, [], ◌∷◌, ◌++◌, length, sum, get_or, sym, refl, ap, ◌∙◌, arith, eq-eqb, ne_eqb}
+use Rattle.std.proofs.lemmas.List.Sums.{sum_by-cons}
+use Rattle.sums.proofs.Sum.{sum-++}
 use Rattle.sums.specs.Sum.{end_around_add, sum_from}
 use Rattle.sums.specs.Total.{reduced, Totals}
 
@@ -27,19 +28,18 @@ reduced_add (suc v) x h =
     let e : end_around_add ((suc v - 1) % 255 + 1) x ≡ (suc v + x - 1) % 255 + 1 = omega arith in
     ap (λ (s : ℕ). end_around_add s x) (sym (reduced_more (suc v) (λ e. omega arith))) ∙ e ∙ reduced_more (suc v + x) (λ e. omega arith)
 
--- a loop that totals octets xs, and stands at octet i with the total t
-module _ (xs : List ℕ) (i t : ℕ) (so_far : (s : ℕ) → s < 256 → sum_from s xs ≡ sum_from (reduced (s + t)) (drop i xs)) where
-  pub total_next : i < length xs → (x : ℕ) → x ≡ get_or xs i 0 → x < 256 → (s : ℕ) → s < 256 → sum_from s xs ≡ sum_from (reduced (s + (t + x))) (drop (i + 1) xs)
-  total_next h x e k s l =
-      let a : s + t + x ≡ s + (t + x) = omega arith in
-      so_far s l
-      ∙ sum_drop (reduced (s + t)) xs i h
-      ∙ ap (λ (y : ℕ). sum_from (end_around_add (reduced (s + t)) y) (drop (i + 1) xs)) (sym e)
-      ∙ ap (λ (v : ℕ). sum_from v (drop (i + 1) xs)) (reduced_add (s + t) x k)
-      ∙ ap (λ (v : ℕ). sum_from (reduced v) (drop (i + 1) xs)) a
+-- octets are totalled by their sum
+totalled : (v : ℕ) (xs : List ℕ) → ((j : ℕ) → get_or xs j 0 < 256) → sum_from (reduced v) xs ≡ reduced (v + sum xs)
+unfolding sum_from
+totalled v [] h = let e : v ≡ v + sum [] = omega arith in ap reduced e
+totalled v (x ∷ xs) h =
+    let e : v + x + sum xs ≡ v + sum (x ∷ xs) = omega (arith, sum_by-cons (λ (x : ℕ). x) x xs) in
+    ap (λ (s : ℕ). sum_from s xs) (reduced_add v x (h 0)) ∙ totalled (v + x) xs (λ j. h (suc j)) ∙ ap reduced e
 
-  pub total_end : length xs ≤ i → Totals xs t
-  total_end h s l = so_far s l ∙ sum_done (reduced (s + t)) xs i h
+pub total_of : (xs : List ℕ) → ((j : ℕ) → get_or xs j 0 < 256) → Totals xs (sum xs)
+total_of xs h s k =
+    let e : s + 0 + sum xs ≡ s + sum xs = omega arith in
+    ap (λ (v : ℕ). sum_from v xs) (reduced_sum s k) ∙ totalled (s + 0) xs h ∙ ap reduced e
 
 -- totals that are alike modulo 255, and both nothing or both something, are reduced alike
 reduced_alike : (v w : ℕ) → v % 255 ≡ w % 255 → (v ≡ 0 → w ≡ 0) → (w ≡ 0 → v ≡ 0) → reduced v ≡ reduced w
@@ -63,55 +63,28 @@ none v a b c d e =
     omega (arith, p, q, r)
 
 -- a word counts as its octets do
-reduced_word : (v a b c d p q : ℕ) → p ≡ a + b * 256 → q ≡ c + d * 256 → reduced (v + a + b + c + d) ≡ reduced (v + (p + q * 65536))
-reduced_word v a b c d p q e f =
-    let w : v + a + b + c + d + 255 * (b + c * 257 + d * 65793) ≡ v + (p + q * 65536) = omega arith in
-    reduced_up (v + a + b + c + d) (b + c * 257 + d * 65793) (v + (p + q * 65536)) w (none v a b c d)
+reduced_word : (v a b c d w : ℕ) → w ≡ a + b * 256 + c * 65536 + d * 16777216 → reduced (v + a + b + c + d) ≡ reduced (v + w)
+reduced_word v a b c d w e =
+    let u : v + a + b + c + d + 255 * (b + c * 257 + d * 65793) ≡ v + w = omega arith in
+    reduced_up (v + a + b + c + d) (b + c * 257 + d * 65793) (v + w) u (none v a b c d)
 
--- a loop that totals words of xs, and stands at octet i with the total t
-module _ (xs : List ℕ) (i t : ℕ) (octets : (j : ℕ) → get_or xs j 0 < 256)
-    (so_far : (s : ℕ) → s < 256 → sum_from s xs ≡ sum_from (reduced (s + t)) (drop i xs)) where
-  pub words_next : i + 3 < length xs → (p q : ℕ) → p ≡ get_or xs i 0 + get_or xs (i + 1) 0 * 256 → q ≡ get_or xs (i + 2) 0 + get_or xs (i + 3) 0 * 256
-      → (s : ℕ) → s < 256 → sum_from s xs ≡ sum_from (reduced (s + (t + (p + q * 65536)))) (drop (i + 4) xs)
-  words_next h p q ep eq s l =
-      let a = get_or xs i 0 in
-      let b = get_or xs (i + 1) 0 in
-      let c = get_or xs (i + 2) 0 in
-      let d = get_or xs (i + 3) 0 in
-      let i₂ : i + 2 ≡ i + 1 + 1 = omega arith in
-      let i₃ : i + 3 ≡ i + 1 + 1 + 1 = omega arith in
-      let i₄ : i + 1 + 1 + 1 + 1 ≡ i + 4 = omega arith in
-      let one = total_next xs i t so_far (omega arith) a refl (octets i) in
-      let two = total_next xs (i + 1) (t + a) one (omega arith) b refl (octets (i + 1)) in
-      let three = total_next xs (i + 1 + 1) (t + a + b) two (omega arith) c (ap (λ (j : ℕ). get_or xs j 0) i₂) (octets (i + 2)) in
-      let four = total_next xs (i + 1 + 1 + 1) (t + a + b + c) three (omega arith) d (ap (λ (j : ℕ). get_or xs j 0) i₃) (octets (i + 3)) in
-      let v : s + (t + a + b + c + d) ≡ s + t + a + b + c + d = omega arith in
-      let w : s + t + (p + q * 65536) ≡ s + (t + (p + q * 65536)) = omega arith in
-      four s l
-      ∙ ap₂ (λ (x j : ℕ). sum_from (reduced x) (drop j xs)) v i₄
-      ∙ ap (λ (x : ℕ). sum_from x (drop (i + 4) xs)) (reduced_word (s + t) a b c d p q ep eq)
-      ∙ ap (λ (x : ℕ). sum_from (reduced x) (drop (i + 4) xs)) w
+-- a word more, of four octets
+pub word_added : (v w : ℕ) (xs ys : List ℕ) → get_or xs 0 0 < 256 → get_or xs 1 0 < 256 → get_or xs 2 0 < 256 → get_or xs 3 0 < 256 → length xs ≡ 4
+    → w ≡ get_or xs 0 0 + get_or xs 1 0 * 256 + get_or xs 2 0 * 65536 + get_or xs 3 0 * 16777216
+    → sum_from (reduced v) (xs ++ ys) ≡ sum_from (reduced (v + w)) ys
+unfolding sum_from
+word_added v w [] ys h₀ h₁ h₂ h₃ l e = absurd (omega arith)
+word_added v w (a ∷ []) ys h₀ h₁ h₂ h₃ l e = absurd (omega arith)
+word_added v w (a ∷ b ∷ []) ys h₀ h₁ h₂ h₃ l e = absurd (omega arith)
+word_added v w (a ∷ b ∷ c ∷ []) ys h₀ h₁ h₂ h₃ l e = absurd (omega arith)
+word_added v w (a ∷ b ∷ c ∷ d ∷ []) ys h₀ h₁ h₂ h₃ l e =
+    ap (λ (s : ℕ). sum_from (end_around_add (end_around_add (end_around_add s b) c) d) ys) (reduced_add v a h₀)
+    ∙ ap (λ (s : ℕ). sum_from (end_around_add (end_around_add s c) d) ys) (reduced_add (v + a) b h₁)
+    ∙ ap (λ (s : ℕ). sum_from (end_around_add s d) ys) (reduced_add (v + a + b) c h₂)
+    ∙ ap (λ (s : ℕ). sum_from s ys) (reduced_add (v + a + b + c) d h₃)
+    ∙ ap (λ (s : ℕ). sum_from s ys) (reduced_word v a b c d w e)
+word_added v w (a ∷ b ∷ c ∷ d ∷ e₁ ∷ xs) ys h₀ h₁ h₂ h₃ l e = absurd (omega arith)
 
-pub total_start : (xs : List ℕ) (s : ℕ) → s < 256 → sum_from s xs ≡ sum_from (reduced (s + 0)) xs
-total_start xs s h = ap (λ (v : ℕ). sum_from v xs) (reduced_sum s h)
-
--- the first k octets by their total, and then those that are left
-pub sum_split : (xs : List ℕ) (k t c r : ℕ) → Totals (take k xs) t → c ≡ reduced (0 + t) → r ≡ sum_from c (take (length xs - k) (drop k xs)) → r ≡ sum_from 0 xs
-sum_split xs k t c r e f g =
-    g
-    ∙ ap₂ sum_from (f ∙ sym (e 0 (omega arith))) (take_all (length xs - k) (drop k xs) (omega (arith, length-drop k xs)))
-    ∙ sym (sum-++ 0 (take k xs) (drop k xs))
-    ∙ ap (sum_from 0) (take-append-drop k xs)
-
-pub whole_words : (xs : List ℕ) → length xs < 32 → (length (take (length xs - length xs % 4) xs) % 4 ≡ 0) × (length (take (length xs - length xs % 4) xs) < 32)
-whole_words xs h = let n = length-take-le (length xs - length xs % 4) xs (omega arith) in (omega arith, omega arith)
-
--- a loop over chunks of xs that stands at octet i, before a chunk up to octet n with the total t
-pub sum_chunk : (s : ℕ) (xs : List ℕ) (i n t : ℕ) → s < 256 → i ≤ n → Totals (take (n - i) (drop i xs)) t → sum_from s (drop i xs) ≡ sum_from (reduced (s + t)) (drop n xs)
-sum_chunk s xs i n t h k e =
-    let part = take (n - i) (drop i xs) in
-    let z : i + (n - i) ≡ n = omega arith in
-    ap (sum_from s) (sym (take-append-drop (n - i) (drop i xs)))
-    ∙ sum-++ s part (drop (n - i) (drop i xs))
-    ∙ ap (λ (v : ℕ). sum_from v (drop (n - i) (drop i xs))) (e s h)
-    ∙ ap (sum_from (reduced (s + t))) (drop-drop (n - i) i xs ∙ ap (λ (j : ℕ). drop j xs) z)
+-- a chunk more
+pub chunk_added : (s : ℕ) (xs ys : List ℕ) (t : ℕ) → s < 256 → Totals xs t → sum_from s (xs ++ ys) ≡ sum_from (reduced (s + t)) ys
+chunk_added s xs ys t h e = sum-++ s xs ys ∙ ap (λ (v : ℕ). sum_from v ys) (e s h)

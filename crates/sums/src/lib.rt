@@ -1,7 +1,7 @@
 // AFP's sums: octets added in eight bits with end-around carry (ones' complement), and the two forms in which a header holds them.
 #![tactic(auto)]
 
-ghost use Rattle.std.specs.Prelude.{◌≡◌, ◌+◌, ◌*◌, ◌%◌, ◌^◌, ◌<◌, ◌≤◌, length};
+ghost use Rattle.std.specs.Prelude.{◌≡◌, ◌+◌, ◌*◌, ◌%◌, ◌^◌, ◌<◌, ◌≤◌, length, sum};
 ghost use Rattle.sums.specs.Sum.{end_around_add, sum_from, next_station_sum, header_sum};
 ghost use Rattle.sums.specs.Total.{chunk, reduced, Totals};
 
@@ -19,12 +19,14 @@ pub fn afp_sum(octets: &[u8]) -> u8
     ensures { result ≡ sum_from 0 octets.now }
 {
     if octets.len() < LONG {
-        return sum_short(octets);
+        sum_short(octets)
+    } else {
+        sum_chunks(octets)
     }
-    sum_chunks(octets)
 }
 
 // The sum of the next station's field as octet 0 of a frame holds it: FF is what a broadcast has there, so FF is written as 0.
+#[tactic(auto, unfolding(crate::specs::Sum::next_station_sum))]
 pub fn next_station_sum(field: &[u8]) -> u8
     ensures { result ≡ next_station_sum field.now }
 {
@@ -33,6 +35,7 @@ pub fn next_station_sum(field: &[u8]) -> u8
 }
 
 // The sum of a header's octets as the header holds it behind them: 0 there means "not calculated", so 0 is written as FF.
+#[tactic(auto, unfolding(crate::specs::Sum::header_sum))]
 pub fn header_sum(octets: &[u8]) -> u8
     ensures { result ≡ header_sum octets.now }
 {
@@ -40,37 +43,14 @@ pub fn header_sum(octets: &[u8]) -> u8
     if sum == 0 { 0xFF } else { sum }
 }
 
-// Words of four octets, whose carries come round once, and then the octets that are left.
+// Words of four octets, whose carries come round once, and then the octets that are left. Cut off first, the words are seen to be
+// seven at most, and no loop is left of them.
 fn sum_short(octets: &[u8]) -> u8
     requires { length octets.now < 32 }
     ensures { result ≡ sum_from 0 octets.now }
 {
-    let n = octets.len();
-    let whole = n - n % 4;
-    let t = total_words(&octets[..whole]);
-    let sum = reduce(0, t);
-    add_each(sum, &octets[whole..])
-}
-
-// A slice's octets added to a sum, one by one.
-fn add_each(start: u8, octets: &[u8]) -> u8
-    ensures { result ≡ sum_from start octets.now }
-{
-    let mut sum = start;
-    let mut i: usize = 0;
-    while i < octets.len() {
-        sum = end_around_add(sum, octets[i]);
-        i += 1;
-    }
-    sum
-}
-
-// One add. In octets alone: the add wraps, a result below an addend shows the carry, and the carry comes round.
-fn end_around_add(sum: u8, x: u8) -> u8
-    ensures { result ≡ end_around_add sum x }
-{
-    let t = std::num::wrapping_add_u8(sum, x);
-    if t < x { t + 1 } else { t }
+    let (words, left) = octets.split_at(octets.len() - octets.len() % 4);
+    add_each(reduce(0, total_words(words)), left)
 }
 
 // Whole words, added without a carry. A word counts as its octets do: 256 is 1 modulo 255.
@@ -79,20 +59,30 @@ fn total_words(octets: &[u8]) -> u64
     ensures upper_bound { result < 2 ^ 35 }
     ensures totals { Totals octets.now result }
 {
-    let mut t: u64 = 0;
-    let mut i = 0;
-    while i < octets.len() {
-        t += pair(octets[i], octets[i + 1]) + pair(octets[i + 2], octets[i + 3]) * 0x1_0000;
-        i += 4;
+    let mut total: u64 = 0;
+    for word in octets.chunks_exact(4) {
+        total += u64::from(u32::from_le_bytes([word[0], word[1], word[2], word[3]]));
     }
-    t
+    total
 }
 
-// Two octets as one number.
-fn pair(low: u8, high: u8) -> u64
-    ensures { (result ≡ low + high * 256) × (result < 65536) }
+// A slice's octets added to a sum, one by one.
+fn add_each(start: u8, octets: &[u8]) -> u8
+    ensures { result ≡ sum_from start octets.now }
 {
-    low as u64 + high as u64 * 0x100
+    let mut sum = start;
+    for &x in octets {
+        sum = end_around_add(sum, x);
+    }
+    sum
+}
+
+// One add. In octets alone: the add wraps, a result below an addend shows the carry, and the carry comes round.
+fn end_around_add(sum: u8, x: u8) -> u8
+    ensures { result ≡ end_around_add sum x }
+{
+    let t = sum.wrapping_add(x);
+    if t < x { t + 1 } else { t }
 }
 
 // By chunks, whose carries come round once, at the end of each.
@@ -100,46 +90,18 @@ fn sum_chunks(octets: &[u8]) -> u8
     ensures { result ≡ sum_from 0 octets.now }
 {
     let mut sum: u8 = 0;
-    let mut i = 0;
-    while i < octets.len() {
-        let next = chunk_end(i, octets.len());
-        let t = total(&octets[i..next]);
-        sum = reduce(sum, t as u64);
-        i = next;
+    for chunk in octets.chunks(CHUNK) {
+        sum = reduce(sum, u64::from(total(chunk)));
     }
     sum
-}
-
-// Where the chunk from i on ends.
-fn chunk_end(i: usize, n: usize) -> usize
-    requires { i < n }
-    ensures { (i < result) × (result ≤ n) × (result ≤ i + chunk) }
-{
-    if n - i < CHUNK {
-        return n;
-    }
-    i + CHUNK
 }
 
 // The octets of a chunk, added without a carry.
 fn total(octets: &[u8]) -> u16
     requires { length octets.now ≤ chunk }
-    ensures upper_bound { result ≤ 255 * chunk }
-    ensures totals { Totals octets.now result }
+    ensures { Totals octets.now result }
 {
-    let mut t: u16 = 0;
-    let mut i = 0;
-    while i < octets.len() {
-        t += wide(octets[i]);
-        i += 1;
-    }
-    t
-}
-
-fn wide(x: u8) -> u16
-    ensures { (result ≡ x) × (result < 256) }
-{
-    x as u16
+    octets.iter().map(|&x| u16::from(x)).sum()
 }
 
 // All carries of a total at once: end-around carry counts modulo 255, and only nothing at all sums to 0.
@@ -147,7 +109,7 @@ fn reduce(sum: u8, t: u64) -> u8
     requires { t < 2 ^ 36 }
     ensures { result ≡ reduced (sum + t) }
 {
-    let v = wide(sum) as u64 + t;
+    let v = u64::from(sum) + t;
     if v == 0 {
         return 0;
     }

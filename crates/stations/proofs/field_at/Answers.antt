@@ -8,18 +8,18 @@ returns-then-fields-index c = field_late c.args.fields.now c.args.index c.if-fie
 
 pub returns-then-length-eq0 : goal.returns-then-length-eq0
 returns-then-length-eq0 c =
-    field_closing c.args.fields.now c.args.index c.size-length.result c.if-fields-index.false c.size-length.ensures (omega arith)
+    field_closing c.args.fields.now c.args.index c.from-length.result c.if-fields-index.false c.from-length.ensures (omega arith)
 
 pub returns-then-left-length : goal.returns-then-left-length
 returns-then-left-length c =
-    field_over c.args.fields.now c.args.index c.size-length.result c.if-fields-index.false c.size-length.ensures c.if-length-eq0.false (omega arith)
+    field_over c.args.fields.now c.args.index c.from-length.result c.if-fields-index.false c.from-length.ensures c.if-length-eq0.false (omega arith)
 
 pub returns-then-valid_id : goal.returns-then-valid_id
 returns-then-valid_id c =
-    (field-last c.args.fields.now c.args.index c.size-length.result c.if-fields-index.false c.size-length.ensures c.if-length-eq0.false
+    (field-last c.args.fields.now c.args.index c.from-length.result c.if-fields-index.false c.from-length.ensures c.if-length-eq0.false
     c.if-left-length.false c.valid_id.result c.valid_id.ensures).0 c.if-valid_id.true
 
 pub returns-else-valid_id : goal.returns-else-valid_id
 returns-else-valid_id c =
-    (field-last c.args.fields.now c.args.index c.size-length.result c.if-fields-index.false c.size-length.ensures c.if-length-eq0.false
+    (field-last c.args.fields.now c.args.index c.from-length.result c.if-fields-index.false c.from-length.ensures c.if-length-eq0.false
     c.if-left-length.false c.valid_id.result c.valid_id.ensures).1 c.if-valid_id.false

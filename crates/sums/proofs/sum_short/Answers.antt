@@ -1,6 +1,12 @@
 -- `sums::sum_short`: the words by their total, and then the octets that are left.
-use Rattle.sums.proofs.Totals.{sum_split}
+use Rattle.std.proofs.Common.{arith}
+use Rattle.sums.proofs.Totals.{chunk_added}
 use Rattle.sums.proofs.sum_short.Goals as goal
 
 pub returns : goal.returns
-returns c = sum_split c.args.octets.now _ _ _ _ c.total_words-t.ensures.totals c.reduce-sum.ensures c.add_each.ensures
+returns c =
+    let xs = c.args.octets.now in
+    let p = c.split_at.result in
+    let e = chunk_added 0 p.0.now p.1.now c.total_words.result (omega arith) c.total_words.ensures.totals in
+    let k = c.split_at.ensures in
+    cc

@@ -1,13 +1,11 @@
--- `sums::total`: one octet more, and nothing left.
-use Rattle.std.proofs.Common.{arith}
-use Rattle.sums.proofs.Totals.{total_next, total_end}
+-- `sums::total`: octets are totalled by their sum.
+use Rattle.std.proofs.Common.{◌≡◌, ◌+◌, ℕ, sum, rules, arith, sym, ap, ◌∙◌}
+use Rattle.sums.specs.Total.{reduced}
+use Rattle.sums.proofs.Totals.{total_of}
 use Rattle.sums.proofs.total.Goals as goal
 
-pub loop-i-preserved : goal.loop-i-preserved
-loop-i-preserved c =
-    let w = c.wide-t in
-    let next = total_next c.args.octets.now c.loop-i.i c.loop-i.t c.loop-i.invariant.2 c.loop-i-test.true w.result w.ensures.0 w.ensures.1 in
-    (omega arith, omega (arith, c.loop-i.invariant.1, w.ensures.1), next)
-
-pub returns-clause-totals : goal.returns-clause-totals
-returns-clause-totals c = total_end c.args.octets.now c.loop-i.i c.loop-i.t c.loop-i.invariant.2 c.loop-i-test.false
+pub returns : goal.returns
+returns c =
+    let xs = c.args.octets.now in
+    let e : c.sum.result ≡ sum xs = search rules in
+    λ s h. total_of xs (λ j. omega (arith, c.type_inv.octets j)) s h ∙ ap (λ (t : ℕ). reduced (s + t)) (sym e)

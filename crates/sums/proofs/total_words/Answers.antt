@@ -1,15 +1,35 @@
--- `sums::total_words`: four octets more, and nothing left.
-use Rattle.std.proofs.Common.{arith}
-use Rattle.sums.proofs.Totals.{total_end, words_next}
+-- `sums::total_words`: a word more, and nothing left.
+use Rattle.std.proofs.Common.{rules, ℕ, ◌+◌, ◌≡◌, ◌∙◌, ap, length, length-append, arith}
+use Rattle.std.specs.Slice.Iter.{chunks_exact_rest}
+use Rattle.sums.specs.Sum.{sum_from}
+use Rattle.sums.specs.Total.{reduced}
+use Rattle.sums.proofs.Sum.{sum_none}
+use Rattle.sums.proofs.Totals.{word_added}
 use Rattle.sums.proofs.total_words.Goals as goal
 
-pub loop-i-preserved : goal.loop-i-preserved
-loop-i-preserved c =
-    let p = c.pair in
-    let q = c.pair-in-loop-i in
-    let more = words_next c.args.octets.now c.loop-i.i c.loop-i.t (λ j. omega (arith, c.type_inv.octets j)) c.loop-i.invariant.3 (omega arith) in
-    let next = more p.result q.result p.ensures.0 q.ensures.0 in
-    (omega arith, omega arith, omega (arith, c.loop-i.invariant.2, p.ensures.1, q.ensures.1), next)
+pub loop-word-preserved : goal.loop-word-preserved
+loop-word-preserved c =
+    let l = c.loop-word in
+    let w = c.from-total in
+    let word = c.in-Some.word.now in
+    let left = chunks_exact_rest c.next.new.self in
+    let steps = c.in-Some.ensures.steps in
+    let n : length (chunks_exact_rest l.word-iterator) ≡ 4 + length left = omega (arith, ap (length {A = ℕ}) steps.1.0, length-append word left, steps.1.1, l.invariant.size) in
+    record {
+      size = steps.0 ∙ l.invariant.size;
+      whole = omega arith;
+      fits = omega arith;
+      so_far = λ s h.
+          let e : s + l.total + w.result ≡ s + (l.total + w.result) = omega arith in
+          l.invariant.so_far s h
+          ∙ ap (sum_from (reduced (s + l.total))) steps.1.0
+          ∙ word_added (s + l.total) w.result word left (search rules) (search rules) (search rules) (search rules) (steps.1.1 ∙ l.invariant.size) (w.ensures ∙ c.from_le_bytes.ensures)
+          ∙ ap (λ (v : ℕ). sum_from (reduced v) left) e;
+    }
 
 pub returns-clause-totals : goal.returns-clause-totals
-returns-clause-totals c = total_end c.args.octets.now c.loop-i.i c.loop-i.t c.loop-i.invariant.3 c.loop-i-test.false
+returns-clause-totals c = λ s h.
+    let l = c.loop-word in
+    let left = chunks_exact_rest l.word-iterator in
+    let n : length left ≡ 0 = omega (arith, c.in-None.ensures.steps.1.0, l.invariant.size) in
+    l.invariant.so_far s h ∙ sum_none (reduced (s + l.total)) left n
