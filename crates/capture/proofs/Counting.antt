@@ -28,13 +28,15 @@ module _ (most : ℕ) where
 
   -- as the code goes: m is the count that changes
   module _ (c : Octets) (n : ℕ) where
-    pub plain_behind : c.synced ≡ true → (m : ℕ) → m ≡ counted most c.after n → behind c m ≡ plain_added most c n
+    pub plain_behind : c.synced ≡ true → (m : ℕ) → m ≡ counted most c.after n
+        → record { synced = c.synced; before = c.before; flags = c.flags; between = c.between; after = m } ≡ plain_added most c n
     unfolding plain_added
-    plain_behind e m k = ap (behind c) k ∙ rw e
+    plain_behind e m k = rw e (ap (behind c) k)
 
-    pub plain_ahead : c.synced ≡ false → (m : ℕ) → m ≡ counted most c.before n → ahead c m ≡ plain_added most c n
+    pub plain_ahead : c.synced ≡ false → (m : ℕ) → m ≡ counted most c.before n
+        → record { synced = c.synced; before = m; flags = c.flags; between = c.between; after = c.after } ≡ plain_added most c n
     unfolding plain_added
-    plain_ahead e m k = ap (ahead c) k ∙ rw e
+    plain_ahead e m k = rw e (ap (ahead c) k)
 
   -- no octets, and octets after octets
   plain_none : (c : Octets) → plain_added most c 0 ≡ c

@@ -1,14 +1,15 @@
 -- Laws of the parts of a whole capture, over lists alone. Assumes nothing.
-use Prim.Native.Nat.{ℕ, zero, suc, ◌+◌, ◌-◌, ◌≤◌, ◌<◌}
+use Prim.Native.Nat.{ℕ, suc, ◌+◌, ◌≤◌, ◌<◌}
 use mathlib.Core.Bool.{Bool, true, false, cond}
 use mathlib.Core.List.{List, [], ◌∷◌, ◌++◌}
 use mathlib.Core.Path.{◌≡◌, refl, sym, ap, ◌∙◌}
-use native.Mathlib.Nat.{zero-add, le_of_suc-le-suc}
+use native.Mathlib.Nat.{zero-add}
 use native.Mathlib.Numerals.{add-one}
 use native.Mathlib.Omega.{arith}
 use lib.Dec.{eqb}
-use lib.ListN.{length, get_or, take, drop, drop_of_length-le, take-append-drop}
-use lib.Seq.{drop-cons, drop-drop}
+use lib.ListN.{length, get_or, drop, drop_of_length-le}
+use mir.Val.{bool_byte}
+use lib.Seq.{drop-cons}
 use Rattle.capture.specs.Whole.{before, flags, closed, between, after}
 use Rattle.framing.specs.Flags.{has_flag}
 
@@ -109,6 +110,17 @@ module _ (flag : ℕ) where
       go false k true e ih = let n = ih e in omega (arith, n)
       go false k false e ih = let z : ◌≡◌ {A = ℕ} 0 1 = cc in absurd (omega arith)
 
+  -- the last flag is none of the octets behind it
+  pub after_less : (l : List ℕ) → has_flag flag l ≡ true → after flag l < length l
+  unfolding has_flag after
+  after_less [] k = let z : ◌≡◌ {A = ℕ} 0 1 = cc in absurd (omega arith)
+  after_less (x ∷ l) k = go (eqb x flag) (has_flag flag l) k (λ h. after_less l h) refl
+    where
+      go : (b h : Bool) → cond b true h ≡ true → (h ≡ true → after flag l < length l) → has_flag flag l ≡ h → cond h (after flag l) (cond b (length l) 0) < suc (length l)
+      go b true k ih e = let n = ih refl in omega (arith, n)
+      go true false k ih e = omega arith
+      go false false k ih e = omega arith
+
   -- flags of octets, and of others
   flags-++ : (xs ys : List ℕ) → flags flag (xs ++ ys) ≡ flags flag xs + flags flag ys
   unfolding flags
@@ -120,17 +132,12 @@ module _ (flag : ℕ) where
       go true ih = omega (arith, ih)
       go false ih = ih
 
-  -- ---- a loop that goes part by part: the part from octet i to octet j has r flags
-  module _ (l : List ℕ) (i j : ℕ) (h : i ≤ j) where
-    pub flags_part : (n r : ℕ) → r ≡ flags flag (take (j - i) (drop i l)) → n + flags flag (drop i l) ≡ flags flag l
-        → (n + r + flags flag (drop j l) ≡ flags flag l) × (n + r ≤ length l)
-    flags_part n r e inv =
-        let k = j - i in
-        let z : i + k ≡ j = omega arith in
-        let cut : drop i l ≡ take k (drop i l) ++ drop j l = sym (take-append-drop k (drop i l)) ∙ ap (λ (d : List ℕ). take k (drop i l) ++ d) (drop-drop k i l ∙ ap (λ (m : ℕ). drop m l) z) in
-        let two = ap (flags flag) cut ∙ flags-++ (take k (drop i l)) (drop j l) in
-        let w : n + r + flags flag (drop j l) ≡ flags flag l = omega (arith, e, inv, two) in
-        (w, omega (arith, w, parts_add_up l))
+  -- ---- a loop that goes part by part: a part with r flags stands before those that are left
+  pub flags_part : (l part left : List ℕ) (n r : ℕ) → r ≡ flags flag part → n + flags flag (part ++ left) ≡ flags flag l
+      → (n + r + flags flag left ≡ flags flag l) × (n + r ≤ length l)
+  flags_part l part left n r e inv =
+      let w : n + r + flags flag left ≡ flags flag l = omega (arith, e, inv, flags-++ part left) in
+      (w, omega (arith, w, parts_add_up l))
 
   -- ---- a loop that stands at octet i
   module _ (l : List ℕ) (i : ℕ) where
@@ -138,83 +145,18 @@ module _ (flag : ℕ) where
     unfolding flags
     flags_end h = rw (drop_of_length-le l h)
 
-    pub before_end : length l ≤ i → before flag (drop i l) ≡ 0
-    unfolding before
-    before_end h = rw (drop_of_length-le l h)
-
     module _ (h : i < length l) where
       at : drop i l ≡ get_or l i 0 ∷ drop (i + 1) l
       at = drop-cons l i 0 h ∙ ap (λ (k : ℕ). get_or l i 0 ∷ drop k l) (sym (add-one i))
 
       -- r: one for a flag
-      pub flags_turn : (n r : ℕ) → r ≡ cond (eqb (get_or l i 0) flag) 1 0 → n + flags flag (drop i l) ≡ flags flag l → (r ≤ 1) × (n + r + flags flag (drop (i + 1) l) ≡ flags flag l)
+      pub flags_turn : (n r : ℕ) → r ≡ bool_byte (eqb (get_or l i 0) flag) → n + flags flag (drop i l) ≡ flags flag l → (r ≤ 1) × (n + r + flags flag (drop (i + 1) l) ≡ flags flag l)
       unfolding flags
       flags_turn n r e inv =
           let k : flags flag (drop i l) ≡ cond (eqb (get_or l i 0) flag) (suc (flags flag (drop (i + 1) l))) (flags flag (drop (i + 1) l)) = ap (flags flag) at in
           go (eqb (get_or l i 0) flag) e k
         where
-          go : (b : Bool) → r ≡ cond b 1 0 → flags flag (drop i l) ≡ cond b (suc (flags flag (drop (i + 1) l))) (flags flag (drop (i + 1) l))
+          go : (b : Bool) → r ≡ bool_byte b → flags flag (drop i l) ≡ cond b (suc (flags flag (drop (i + 1) l))) (flags flag (drop (i + 1) l))
               → (r ≤ 1) × (n + r + flags flag (drop (i + 1) l) ≡ flags flag l)
           go true e k = (omega (arith, e), omega (arith, e, k, inv))
           go false e k = (omega (arith, e), omega (arith, e, k, inv))
-
-      pub before_at : eqb (get_or l i 0) flag ≡ true → before flag (drop i l) ≡ 0
-      unfolding before
-      before_at e = ap (before flag) at ∙ rw e
-
-      module _ (e : eqb (get_or l i 0) flag ≡ false) where
-        pub before-past : before flag (drop i l) ≡ suc (before flag (drop (i + 1) l))
-        unfolding before
-        before-past = ap (before flag) at ∙ rw e
-
-        pub has_flag-past : has_flag flag (drop i l) ≡ has_flag flag (drop (i + 1) l)
-        unfolding has_flag
-        has_flag-past = ap (has_flag flag) at ∙ rw e
-
-  -- the last flag stands at octet i
-  has_flag-at : (l : List ℕ) (i : ℕ) → i < length l → eqb (get_or l i 0) flag ≡ true → has_flag flag l ≡ true
-  unfolding has_flag
-  has_flag-at [] i h e = let z : ⊥ = omega (arith, h) in absurd z
-  has_flag-at (x ∷ l) zero h e = rw e
-  has_flag-at (x ∷ l) (suc i) h e = go (eqb x flag) (has_flag-at l i (le_of_suc-le-suc h) e)
-    where
-      go : (b : Bool) → has_flag flag l ≡ true → cond b true (has_flag flag l) ≡ true
-      go true ih = refl
-      go false ih = ih
-
-  pub after_at_lem : (l : List ℕ) (i : ℕ) → i < length l → eqb (get_or l i 0) flag ≡ true → has_flag flag (drop (suc i) l) ≡ false → after flag l ≡ length l - suc i
-  unfolding after
-  after_at_lem [] i h e k = let z : ⊥ = omega (arith, h) in absurd z
-  after_at_lem (x ∷ l) zero h e k = rw (k, e) (omega arith)
-  after_at_lem (x ∷ l) (suc i) h e k =
-      let r = le_of_suc-le-suc h in
-      let n = after_at_lem l i r e k in
-      rw (has_flag-at l i r e) (omega (arith, n))
-
-  -- ---- a loop that goes from the end: the last n octets have no flag
-  abbrev pub Bare : List ℕ → ℕ → Type 0
-  Bare l n = has_flag flag (drop (length l - n) l) ≡ false
-
-  pub bare_none : (l : List ℕ) → Bare l 0
-  unfolding has_flag
-  bare_none l = let e : drop (length l - 0) l ≡ [] = drop_of_length-le l {i = length l - 0} (omega arith) in ap (has_flag flag) e
-
-  module _ (l : List ℕ) (n : ℕ) (h : n < length l) (bare : Bare l n) where
-    pub bare_flag : eqb (get_or l (length l - 1 - n) 0) flag ≡ true → n ≡ after flag l
-    bare_flag e =
-        let i = length l - 1 - n in
-        let z : length l - n ≡ suc i = omega arith in
-        let k = after_at_lem l i (omega arith) e (ap (λ (j : ℕ). has_flag flag (drop j l)) (sym z) ∙ bare) in
-        omega (arith, k)
-
-    pub bare_other : eqb (get_or l (length l - 1 - n) 0) flag ≡ false → Bare l (n + 1)
-    bare_other e =
-        let i = length l - 1 - n in
-        let y : length l - (n + 1) ≡ i = omega arith in
-        let z : i + 1 ≡ length l - n = omega arith in
-        ap (λ (j : ℕ). has_flag flag (drop j l)) y ∙ has_flag-past l i (omega arith) e ∙ ap (λ (j : ℕ). has_flag flag (drop j l)) z ∙ bare
-
-  pub bare_all : (l : List ℕ) (n : ℕ) → n ≤ length l → length l ≤ n → Bare l n → 0 ≡ after flag l
-  bare_all l n h k bare =
-      let z : length l - n ≡ 0 = omega arith in
-      sym (after_none l (ap (λ (j : ℕ). has_flag flag (drop j l)) (sym z) ∙ bare))

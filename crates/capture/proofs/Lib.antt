@@ -1,3 +1,4 @@
 pub mod Flags
+pub mod Finding
 pub mod Counting
 pub mod Whole

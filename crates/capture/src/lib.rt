@@ -2,7 +2,7 @@
 // (specs/Octets; of a whole capture: specs/Whole). A chunk is taken apart (`parts_of`), and its parts are counted at once (`Octets::with`).
 #![tactic(auto)]
 
-ghost use Rattle.std.specs.Prelude.{◌+◌, ◌≤◌, ◌<◌, cond, ◌≡◌, length};
+ghost use Rattle.std.specs.Prelude.{◌+◌, ◌≤◌, ◌<◌, ◌==◌, ◌≡◌, length, position, reverse};
 ghost use Rattle.capture.specs.Octets.{fresh_octets, plain_added, flags_added, count_all, parts_of, parts_added};
 ghost use Rattle.capture.specs.Whole.{before, flags, after};
 
@@ -69,20 +69,15 @@ impl Octets {
         ensures { result ≡ plain_added most self n }
     {
         if self.synced {
-            return Octets {
-                synced: true,
-                before: self.before,
-                flags: self.flags,
-                between: self.between,
+            Octets {
                 after: counter::add(most, self.after, n),
-            };
-        }
-        Octets {
-            synced: false,
-            before: counter::add(most, self.before, n),
-            flags: self.flags,
-            between: self.between,
-            after: self.after,
+                ..self
+            }
+        } else {
+            Octets {
+                before: counter::add(most, self.before, n),
+                ..self
+            }
         }
     }
 
@@ -93,10 +88,10 @@ impl Octets {
         let closed = counter::add(most, self.between, self.after);
         Octets {
             synced: true,
-            before: self.before,
             flags: counter::add(most, self.flags, n),
             between: counter::add(most, closed, inner),
             after: counter::add(most, 0, last),
+            ..self
         }
     }
 }
@@ -130,24 +125,10 @@ pub fn flags_in(flag: u8, chunk: &[u8]) -> usize
     ensures { result ≡ flags flag chunk.now }
 {
     let mut n = 0;
-    let mut i = 0;
-    while i < chunk.len() {
-        let end = part_end(i, chunk.len());
-        n += flags_in_part(flag, &chunk[i..end]) as usize;
-        i = end;
+    for part in chunk.chunks(PART) {
+        n += usize::from(flags_in_part(flag, part));
     }
     n
-}
-
-// Where the part that begins at `from` ends.
-fn part_end(from: usize, length: usize) -> usize
-    requires { from < length }
-    ensures { (from < result) × (result ≤ length) × (result ≤ from + 255) }
-{
-    if length - from < PART {
-        return length;
-    }
-    from + PART
 }
 
 // Counted in an octet, which a part can't pass: the loop is then made vectors of sixteen octets.
@@ -156,45 +137,35 @@ fn flags_in_part(flag: u8, part: &[u8]) -> u8
     ensures { result ≡ flags flag part.now }
 {
     let mut n = 0;
-    let mut i = 0;
-    while i < part.len() {
-        n += one_if(part[i] == flag);
-        i += 1;
+    for &x in part {
+        n += u8::from(x == flag);
     }
     n
-}
-
-// No branch.
-fn one_if(yes: bool) -> u8
-    ensures { result ≡ cond yes 1 0 }
-{
-    if yes { 1 } else { 0 }
 }
 
 // The octets before its first flag; all where it has none.
 fn octets_before(flag: u8, chunk: &[u8]) -> usize
     ensures { result ≡ before flag chunk.now }
 {
-    let mut i = 0;
-    while i < chunk.len() {
-        if chunk[i] == flag {
-            return i;
-        }
-        i += 1;
-    }
-    i
+    from_front(flag, chunk).unwrap_or(chunk.len())
 }
 
 // The octets after its last flag; none where it has none.
 fn octets_after(flag: u8, chunk: &[u8]) -> usize
     ensures { result ≡ after flag chunk.now }
 {
-    let mut n = 0;
-    while n < chunk.len() {
-        if chunk[chunk.len() - 1 - n] == flag {
-            return n;
-        }
-        n += 1;
-    }
-    0
+    from_end(flag, chunk).unwrap_or(0)
+}
+
+// How many octets stand before the first flag, and behind the last.
+fn from_front(flag: u8, chunk: &[u8]) -> Option<usize>
+    ensures { result ≡ position (λ x. x == flag) chunk.now }
+{
+    chunk.iter().position(|&x| x == flag)
+}
+
+fn from_end(flag: u8, chunk: &[u8]) -> Option<usize>
+    ensures { result ≡ position (λ x. x == flag) (reverse chunk.now) }
+{
+    chunk.iter().rev().position(|&x| x == flag)
 }

@@ -1,28 +1,20 @@
--- `capture::flags_in` meets its contract: those of the parts before octet i, and those from there on. Assumes nothing.
-use Rattle.std.proofs.Common.{◌+◌, ◌≤◌, ◌≡◌, zero-add, arith, length, drop}
+-- `capture::flags_in` meets its contract: those of the parts before, and of what is left. Assumes nothing.
+use Rattle.std.proofs.Common.{◌+◌, ◌≡◌, ◌≤◌, arith, length, ◌∙◌}
 use Rattle.capture.proofs.Flags.{flags_end, flags_part}
 use Rattle.capture.specs.Whole.{flags}
 use Rattle.capture.proofs.flags_in.Goals as goal
 
-pub loop-i-init : goal.loop-i-init
-loop-i-init c = (omega arith, zero-add _)
+turn : (c : goal.After-from-n) → (c.loop-part.n + c.from-n.result + flags c.args.flag c.next.new.self.rest.now ≡ flags c.args.flag c.args.chunk.now) × (c.loop-part.n + c.from-n.result ≤ length c.args.chunk.now)
+turn c =
+    let a = c.args in
+    let s = c.in-Some.ensures.steps in
+    flags_part a.flag a.chunk.now c.in-Some.part.now c.next.new.self.rest.now c.loop-part.n _ (c.from-n.ensures ∙ c.flags_in_part.ensures) (rw s.1.0 at c.loop-part.invariant.1)
 
 pub overflow_add-n : goal.overflow_add-n
-overflow_add-n c =
-    let turn : let at = c.loop-i in let a = c.args in let r = c.flags_in_part.result in (at.n + r + flags a.flag (drop c.part_end-end.result a.chunk.now) ≡ flags a.flag a.chunk.now) × (at.n + r ≤ length a.chunk.now) = (let at = c.loop-i in
-    let a = c.args in
-    flags_part a.flag a.chunk.now at.i _ (omega (arith, c.part_end-end.ensures.0)) at.n _ c.flags_in_part.ensures at.invariant.1) in
-    omega (arith, (turn).1, c.well_formed.1.0)
+overflow_add-n c = omega (arith, (turn c).1)
 
-pub loop-i-smaller : goal.loop-i-smaller
-loop-i-smaller c = omega (arith, c.part_end-end.ensures.0, c.part_end-end.ensures.1)
-
-pub loop-i-preserved : goal.loop-i-preserved
-loop-i-preserved c =
-    let turn : let at = c.loop-i in let a = c.args in let r = c.flags_in_part.result in (at.n + r + flags a.flag (drop c.part_end-end.result a.chunk.now) ≡ flags a.flag a.chunk.now) × (at.n + r ≤ length a.chunk.now) = (let at = c.loop-i in
-    let a = c.args in
-    flags_part a.flag a.chunk.now at.i _ (omega (arith, c.part_end-end.ensures.0)) at.n _ c.flags_in_part.ensures at.invariant.1) in
-    (omega (arith, c.part_end-end.ensures.1), (turn).0)
+pub loop-part-preserved : goal.loop-part-preserved
+loop-part-preserved c = (c.in-Some.ensures.steps.0 ∙ c.loop-part.invariant.0, (turn c).0)
 
 pub returns : goal.returns
-returns c = let at = c.loop-i in omega (arith, at.invariant.1, flags_end c.args.flag c.args.chunk.now at.i (omega (arith, c.loop-i-test.false)))
+returns c = omega (arith, c.loop-part.invariant.1, flags_end c.args.flag c.loop-part.part-iterator.rest.now 0 (omega (arith, c.in-None.ensures.steps.1.0)))

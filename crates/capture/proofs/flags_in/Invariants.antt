@@ -1,10 +1,7 @@
--- `capture::flags_in` meets its contract: those of the parts before octet i, and those from there on. Assumes nothing.
-use Rattle.std.proofs.Common.{◌+◌, ◌-◌, ◌≤◌, ◌≡◌, length, drop}
+-- `capture::flags_in` meets its contract: those of the parts before, and of what is left. Assumes nothing.
+use Rattle.std.proofs.Common.{◌+◌, ◌≡◌}
 use Rattle.capture.specs.Whole.{flags}
 use Rattle.capture.proofs.flags_in.Given as goal
 
-abbrev pub invariant-loop-i : goal.invariant-loop-i
-invariant-loop-i l = (l.i ≤ length l.chunk) × (l.n + flags l.flag (drop l.i l.chunk) ≡ flags l.flag l.chunk)
-
-abbrev pub decreases-loop-i : goal.decreases-loop-i
-decreases-loop-i l = length l.chunk - l.i
+abbrev pub invariant-loop-part : goal.invariant-loop-part
+invariant-loop-part l = (l.part-iterator.size ≡ 224) × (l.n + flags l.flag l.part-iterator.rest.now ≡ flags l.flag l.chunk)

@@ -1,10 +1,7 @@
--- `capture::flags_in_part` meets its contract: those before octet i, and those from there on. Assumes nothing.
-use Rattle.std.proofs.Common.{◌+◌, ◌-◌, ◌≤◌, ◌≡◌, length, drop}
+-- `capture::flags_in_part` meets its contract: those before an octet, and those from there on. Assumes nothing.
+use Rattle.std.proofs.Common.{◌+◌, ◌≤◌, ◌≡◌, drop}
 use Rattle.capture.specs.Whole.{flags}
 use Rattle.capture.proofs.flags_in_part.Given as goal
 
-abbrev pub invariant-loop-i : goal.invariant-loop-i
-invariant-loop-i l = (l.i ≤ length l.part) × (l.n ≤ l.i) × (l.n + flags l.flag (drop l.i l.part) ≡ flags l.flag l.part)
-
-abbrev pub decreases-loop-i : goal.decreases-loop-i
-decreases-loop-i l = length l.part - l.i
+abbrev pub invariant-loop-x : goal.invariant-loop-x
+invariant-loop-x l = (l.n ≤ l.x-index) × (l.n + flags l.flag (drop l.x-index l.part) ≡ flags l.flag l.part)
