@@ -93,6 +93,3 @@ all_meets l before later lengths w n room s =
 -- ---- an effect under another name
 pub meets_by : {d e : Effect} {l r : Link} {before later : List ℕ} {a : Answer} → d ≡ e → Meets view e l before later r a → Meets view d l before later r a
 meets_by p g = rw p g
-
-pub returns_by : {d e : Effect} {l r : Link} {a : Answer} → d ≡ e → Returns view e l r a → Returns view d l r a
-returns_by p g = rw p g

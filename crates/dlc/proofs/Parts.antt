@@ -1,24 +1,21 @@
 -- A well-formed link, part by part. Assumes nothing.
-use Prim.Native.Nat.{ℕ, suc, ◌<◌, ◌≤◌}
+use Prim.Native.Nat.{ℕ, suc, ◌<◌}
 use native.Mathlib.Omega.{arith}
 use mathlib.Core.Path.{◌≡◌, refl, sym, ◌∙◌}
 use mathlib.Core.Bool.{Bool, true, false, ◌&&◌, false≢true}
 use mathlib.Core.List.{List, [], ◌∷◌}
 use lib.ListN.{length}
 use lib.Dec.{ltb, eqb}
-use mir.Val.{Val}
-use denote.Laws.{Is}
-use borrow.Author.Tests.{lt-ltb, le-ltb, ltb-true, eq-eqb}
+use borrow.Author.Tests.{lt-ltb, ltb-true, eq-eqb}
 use Rattle.common.proofs.Bools.{and_both}
 use Rattle.dlc_packet.specs.Numbers.{modulus, known_edition}
 use Rattle.dlc_table.specs.declared.State.{State}
 use Rattle.dlc_table.specs.declared.State.TheVariants.{Idle, Reset, Data, Wait}
 use Rattle.dlc_table.specs.Events.{is_open, state_of}
-use Rattle.dlc_queue.specs.Queue.{payloads, held, at_rest, formed}
-use Rattle.dlc_queue.proofs.Slots.{length-owned, rest_held}
+use Rattle.dlc_queue.specs.Queue.{slots, payloads, held, at_rest, formed}
+use Rattle.dlc_queue.proofs.Slots.{formed_count, length-payloads, rest_held}
 use Rattle.dlc.specs.declared.Link.{Link}
 use Rattle.dlc.specs.View.{state_fits, well_formed}
-use Rattle.dlc.specs.contracts.Link as L
 
 -- whether the link's queue and numbers go with a state
 abbrev pub fits : Link → State → Bool
@@ -45,28 +42,6 @@ parts l e =
 pub whole : (l : Link) → Parts l → well_formed l ≡ true
 unfolding well_formed
 whole l g = simp (g.queue, lt-ltb _ _ g.base, lt-ltb _ _ g.expected, g.edition) g.state
-
--- the tests that a link fails, in the order of the code
-module _ (l : Link) where
-  pub bad_queue : formed l.queue ≡ false → well_formed l ≡ false
-  unfolding well_formed
-  bad_queue e = rw e
-
-  pub bad_base : formed l.queue ≡ true → modulus ≤ l.base → well_formed l ≡ false
-  unfolding well_formed
-  bad_base e h = rw (e, le-ltb _ _ h)
-
-  pub bad_expected : formed l.queue ≡ true → l.base < modulus → modulus ≤ l.expected → well_formed l ≡ false
-  unfolding well_formed
-  bad_expected e h k = rw (e, lt-ltb _ _ h, le-ltb _ _ k)
-
-  pub bad_edition_lem : formed l.queue ≡ true → l.base < modulus → l.expected < modulus → known_edition l.edition ≡ false → well_formed l ≡ false
-  unfolding well_formed
-  bad_edition_lem e h k d = rw (e, lt-ltb _ _ h, lt-ltb _ _ k, d)
-
-  pub by_state : formed l.queue ≡ true → l.base < modulus → l.expected < modulus → known_edition l.edition ≡ true → well_formed l ≡ fits l l.state
-  unfolding well_formed
-  by_state e h k d = rw (e, lt-ltb _ _ h, lt-ltb _ _ k, d)
 
 -- whatever else it has: with an unknown edition a value is no link
 pub unknown_edition : (l : Link) → known_edition l.edition ≡ false → well_formed l ≡ false
@@ -99,5 +74,5 @@ module _ (l : Link) where
       eq-eqb _ _ (rest_held l.queue rests)
 
   -- as many payloads as the queue counts
-  pub length-queue : (vs : List Val) → Is L.the_row l vs → well_formed l ≡ true → length (payloads l.queue) ≡ held l.queue
-  length-queue vs g e = length-owned l.queue _ g.1.1.1.0 (parts l e).queue
+  pub length-queue : length l.queue.slots ≡ slots → well_formed l ≡ true → length (payloads l.queue) ≡ held l.queue
+  length-queue long e = length-payloads l.queue long (formed_count l.queue (parts l e).queue)

@@ -1,54 +1,43 @@
 // The four events of a link: start, timer, payload and arrival. Each refuses in the order 27, 26, 23, 21, 20, 22 and then goes by the step table.
 // Each takes any link value, and any reply buffer; where it refuses, the link and the buffer are as they came.
-ghost use Rattle.std.specs.Prelude.{◌≡◌};
+ghost use Rattle.std.specs.Prelude.{◌≡◌, ◌++◌};
 ghost use Rattle.common.specs.Refusals.{guarded};
 ghost use Rattle.dlc_table.specs.Answers.{done};
-ghost use Rattle.dlc_table.specs.Events.{call_refusals};
+ghost use Rattle.dlc_table.specs.Refused.{code_of};
+ghost use Rattle.dlc_table.specs.Events.{call_refusals, payload_refusals};
 ghost use Rattle.dlc_queue.specs.Queue.{slots};
 ghost use Rattle.dlc.specs.View.{view};
 ghost use Rattle.dlc.specs.Calls.{StartCall, TimerCall, PayloadCall, ArrivalCall};
 
-use crate::{Link, Outcome, is_open, send_control, silent};
+use crate::{Link, Outcome};
+use dlc_answer::Answer;
 use dlc_packet::Kind;
-use dlc_table::{
-    BAD_LINK, BAD_PACKET, DONE, NO_ENTRY, NOT_OPEN, PAYLOAD_TOO_LONG, QUEUE_FULL, REPLY_TOO_SMALL,
-    State,
-};
+use dlc_table::{DONE, Refusal, State};
 
 impl Link {
     // The upper layer starts the link.
-    pub fn start(mut self, reply: &mut [u8]) -> Outcome
+    pub fn start(self, reply: &mut [u8]) -> Outcome
         ensures { StartCall view self reply.old reply.new result.link result.answer }
     {
-        let c = self.refusal(reply.len());
-        if c != DONE {
-            return silent(self, c);
+        if let Err(refusal) = self.check(reply.len()) {
+            return self.refused(refusal);
         }
-        let s = self.state;
-        match s {
-            State::Idle => {
-                self = self.in_state(State::Reset);
-                silent(self, DONE)
-            }
-            State::Reset => silent(self, NO_ENTRY),
-            State::Data => silent(self, NO_ENTRY),
-            State::Wait => silent(self, NO_ENTRY),
+        match self.state {
+            State::Idle => self.in_state(State::Reset).done(),
+            State::Reset | State::Data | State::Wait => self.refused(Refusal::NoEntry),
         }
     }
 
     // The timer runs out.
-    pub fn timer(mut self, reply: &mut [u8]) -> Outcome
+    pub fn timer(self, reply: &mut [u8]) -> Outcome
         ensures { TimerCall view self reply.old reply.new result.link result.answer }
     {
-        let c = self.refusal(reply.len());
-        if c != DONE {
-            return silent(self, c);
+        if let Err(refusal) = self.check(reply.len()) {
+            return self.refused(refusal);
         }
-        let s = self.state;
-        match s {
-            State::Idle => silent(self, NO_ENTRY),
-            State::Reset => send_control(self, DONE, false, false, dlc_packet::RESET, reply),
-            State::Data => silent(self, NO_ENTRY),
+        match self.state {
+            State::Idle | State::Data => self.refused(Refusal::NoEntry),
+            State::Reset => self.send_control(Answer::silent(DONE), dlc_packet::RESET, reply),
             State::Wait => self.send_all(reply),
         }
     }
@@ -57,37 +46,21 @@ impl Link {
     pub fn payload(self, p: &[u8], reply: &mut [u8]) -> Outcome
         ensures { PayloadCall view self p.now reply.old reply.new result.link result.answer }
     {
-        let c = self.refusal(reply.len());
-        if c != DONE {
-            return silent(self, c);
+        if let Err(refusal) = self.check_payload(p, reply.len()) {
+            return self.refused(refusal);
         }
-        if Link::MAX_PAYLOAD < p.len() {
-            return silent(self, PAYLOAD_TOO_LONG);
-        }
-        let s = self.state;
-        if is_open(s) {
-            let q = self.queue;
-            let n = q.len();
-            if Link::SLOTS <= n {
-                return silent(self, QUEUE_FULL);
-            }
-            self.queue(p, reply)
-        } else {
-            silent(self, NOT_OPEN)
-        }
+        self.queue(p, reply)
     }
 
     // A packet arrives.
-    pub fn arrival(mut self, packet: &[u8], reply: &mut [u8]) -> Outcome
+    pub fn arrival(self, packet: &[u8], reply: &mut [u8]) -> Outcome
         ensures { ArrivalCall view self packet.now reply.old reply.new result.link result.answer }
     {
-        let c = self.refusal(reply.len());
-        if c != DONE {
-            return silent(self, c);
+        if let Err(refusal) = self.check(reply.len()) {
+            return self.refused(refusal);
         }
-        let kind = dlc_packet::kind_of(packet);
-        match kind {
-            Kind::Invalid => silent(self, BAD_PACKET),
+        match dlc_packet::kind_of(packet) {
+            Kind::Invalid => self.refused(Refusal::BadPacket),
             Kind::Reset => self.clear(reply),
             Kind::ResetAck => self.reset_ack(),
             Kind::Data(x) => self.data(x, reply),
@@ -95,18 +68,33 @@ impl Link {
         }
     }
 
-    // The refusal that all calls share: BAD_LINK, then REPLY_TOO_SMALL; DONE where neither applies.
-    fn refusal(self, room: usize) -> u8
-        ensures { result ≡ guarded (call_refusals slots (view self) room) (λ n. n) done }
+    // What all calls refuse.
+    fn check(self, room: usize) -> Result<(), Refusal>
+        ensures { code_of result ≡ guarded (call_refusals slots (view self) room) (λ n. n) done }
     {
-        if self.well_formed() {
-            if room < Link::REPLY_SIZE {
-                REPLY_TOO_SMALL
-            } else {
-                DONE
-            }
-        } else {
-            BAD_LINK
+        if !self.well_formed() {
+            return Err(Refusal::BadLink);
         }
+        if room < Link::REPLY_SIZE {
+            return Err(Refusal::ReplyTooSmall);
+        }
+        Ok(())
+    }
+
+    // What a payload call refuses: that, and then what is its own.
+    fn check_payload(self, p: &[u8], room: usize) -> Result<(), Refusal>
+        ensures { code_of result ≡ guarded (call_refusals slots (view self) room ++ payload_refusals slots (view self) p.now) (λ n. n) done }
+    {
+        self.check(room)?;
+        if Link::MAX_PAYLOAD < p.len() {
+            return Err(Refusal::PayloadTooLong);
+        }
+        if !self.is_open() {
+            return Err(Refusal::NotOpen);
+        }
+        if Link::SLOTS <= self.queue.len() {
+            return Err(Refusal::QueueFull);
+        }
+        Ok(())
     }
 }

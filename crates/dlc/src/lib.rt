@@ -8,14 +8,16 @@
 ghost use Rattle.std.specs.Prelude.{◌≡◌, true, cond, [], ◌∷◌, ◌+◌, ◌≤◌, length, eqb};
 ghost use Rattle.dlc_packet.specs.Numbers.{edition_of, known_edition};
 ghost use Rattle.dlc_table.specs.Model.{fresh};
-ghost use Rattle.dlc_table.specs.Events.{is_open, effect};
+ghost use Rattle.dlc_table.specs.Answers.{done};
+ghost use Rattle.dlc_table.specs.Refused.{number_of};
+ghost use Rattle.dlc_table.specs.Events.{is_open, effect, refuse};
 ghost use Rattle.dlc.specs.View.{view, relinked};
 ghost use Rattle.dlc.specs.Calls.{given, OneSent, MakeCall};
 
 use dlc_answer::Answer;
 use dlc_packet::EDITION_1;
 use dlc_queue::Queue;
-use dlc_table::{BAD_EDITION, DONE, State};
+use dlc_table::{DONE, Refusal, State};
 
 mod events;
 mod form;
@@ -53,23 +55,70 @@ impl Link {
         ensures { MakeCall view edition result.link result.answer }
     {
         if dlc_packet::known_edition(edition) {
-            silent(fresh_link(edition), DONE)
+            fresh_link(edition).done()
         } else {
-            silent(fresh_link(EDITION_1), BAD_EDITION)
+            fresh_link(EDITION_1).refused(Refusal::BadEdition)
         }
     }
 
-    // The link in another state. A field that is an enum can't be set, so the struct is made anew.
-    fn in_state(self, s: State) -> Link
-        ensures { result ≡ relinked self s self.queue self.base self.expected }
+    // Whether payloads can pass: DLDATA and DLDWAIT.
+    fn is_open(self) -> bool
+        ensures { result ≡ is_open self.state }
     {
-        let q = self.queue;
-        Link {
-            state: s,
-            queue: q,
-            base: self.base,
-            expected: self.expected,
-            edition: self.edition,
+        matches!(self.state, State::Data | State::Wait)
+    }
+
+    // The link in another state.
+    fn in_state(self, state: State) -> Link
+        ensures { result ≡ relinked self state self.queue self.base self.expected }
+    {
+        Link { state, ..self }
+    }
+
+    // Gives the link back done: nothing sent, nothing for the upper layer.
+    fn done(self) -> Outcome
+        ensures { result ≡ given self (effect done [] (view self)) }
+    {
+        Outcome {
+            link: self,
+            answer: Answer::silent(DONE),
+        }
+    }
+
+    // Gives the link back with a refusal.
+    fn refused(self, refusal: Refusal) -> Outcome
+        ensures { result ≡ given self (refuse (view self) (number_of refusal)) }
+    {
+        Outcome {
+            link: self,
+            answer: Answer::silent(refusal.into()),
+        }
+    }
+
+    // Gives the link back with one packet that is a control octet and no payload.
+    fn send_control(self, answer: Answer, control: u8, reply: &mut [u8]) -> Outcome
+        requires { 1 ≤ length reply.old }
+        ensures { OneSent self answer.code answer.«upper_reset» answer.delivered (control ∷ []) reply.old reply.new result }
+    {
+        self.send_one(answer, control, b"", reply)
+    }
+
+    // Gives the link back with one packet: a control octet, and a payload behind it. The answer says the rest.
+    fn send_one(self, answer: Answer, control: u8, payload: &[u8], reply: &mut [u8]) -> Outcome
+        requires { 1 + length payload.now ≤ length reply.old }
+        ensures { OneSent self answer.code answer.«upper_reset» answer.delivered (control ∷ payload.now) reply.old reply.new result }
+    {
+        reply[0] = control;
+        octets::put(payload, reply, 1);
+        let mut lengths = [0; Queue::SLOTS];
+        lengths[0] = 1 + payload.len();
+        Outcome {
+            link: self,
+            answer: Answer {
+                sent: 1,
+                lengths,
+                ..answer
+            },
         }
     }
 }
@@ -79,25 +128,12 @@ fn fresh_link(edition: u8) -> Link
     requires { known_edition edition ≡ true }
     ensures { view result ≡ fresh (edition_of edition) }
 {
-    let q = Queue::new();
     Link {
         state: State::Idle,
-        queue: q,
+        queue: Queue::new(),
         base: 0,
         expected: 0,
-        edition: edition,
-    }
-}
-
-// Whether payloads can pass: DLDATA and DLDWAIT.
-fn is_open(s: State) -> bool
-    ensures { result ≡ is_open s }
-{
-    match s {
-        State::Idle => false,
-        State::Reset => false,
-        State::Data => true,
-        State::Wait => true,
+        edition,
     }
 }
 
@@ -106,64 +142,4 @@ fn open_state(n: usize) -> State
     ensures { result ≡ cond (eqb n 0) State.Data State.Wait }
 {
     if n == 0 { State::Data } else { State::Wait }
-}
-
-// Gives a link back with a number alone: nothing sent, nothing for the upper layer.
-fn silent(link: Link, code: u8) -> Outcome
-    ensures { result ≡ given link (effect code [] (view link)) }
-{
-    Outcome {
-        link: link,
-        answer: Answer {
-            code: code,
-            upper_reset: false,
-            delivered: false,
-            sent: 0,
-            lengths: [0; Queue::SLOTS],
-        },
-    }
-}
-
-// Gives a link back with one packet that is a control octet and no payload.
-fn send_control(
-    link: Link,
-    code: u8,
-    reset: bool,
-    delivered: bool,
-    control: u8,
-    reply: &mut [u8],
-) -> Outcome
-    requires { 1 ≤ length reply.old }
-    ensures { OneSent link code reset delivered (control ∷ []) reply.old reply.new result }
-{
-    send_one(link, code, reset, delivered, control, b"", reply)
-}
-
-// Gives a link back with one packet: a control octet, and a payload behind it.
-fn send_one(
-    link: Link,
-    code: u8,
-    reset: bool,
-    delivered: bool,
-    control: u8,
-    payload: &[u8],
-    reply: &mut [u8],
-) -> Outcome
-    requires { 1 + length payload.now ≤ length reply.old }
-    ensures { OneSent link code reset delivered (control ∷ payload.now) reply.old reply.new result }
-{
-    reply[0] = control;
-    octets::put(payload, reply, 1);
-    let mut lengths = [0usize; Queue::SLOTS];
-    lengths[0] = 1 + payload.len();
-    Outcome {
-        link: link,
-        answer: Answer {
-            code: code,
-            upper_reset: reset,
-            delivered: delivered,
-            sent: 1,
-            lengths: lengths,
-        },
-    }
 }

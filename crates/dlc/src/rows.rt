@@ -6,39 +6,38 @@ ghost use Rattle.dlc_queue.specs.Queue.{slots, reply_size, held};
 ghost use Rattle.dlc.specs.View.{well_formed, view};
 ghost use Rattle.dlc.specs.Calls.{Returns, Meets};
 
-use crate::{Link, Outcome, is_open, open_state, send_control, send_one, silent};
+use crate::{Link, Outcome, open_state};
 use dlc_answer::Answer;
-use dlc_table::{DONE, NO_ENTRY, OTHER_NUMBER, State};
+use dlc_table::{DONE, OTHER_NUMBER, Refusal, State};
 
 impl Link {
     // RESET: clear.
-    pub(crate) fn clear(mut self, reply: &mut [u8]) -> Outcome
+    pub(crate) fn clear(self, reply: &mut [u8]) -> Outcome
         requires { (well_formed self ≡ true) × (reply_size ≤ length reply.old) }
         ensures { Meets view (cleared (view self)) self reply.old reply.new result.link result.answer }
     {
-        let old = self.queue;
-        let q = old.emptied();
-        self.queue = q;
-        self.base = 0;
-        self.expected = 0;
-        self = self.in_state(State::Data);
-        send_control(self, DONE, true, false, dlc_packet::RESET_ACK, reply)
+        let link = Link {
+            state: State::Data,
+            queue: self.queue.emptied(),
+            base: 0,
+            expected: 0,
+            ..self
+        };
+        let answer = Answer {
+            upper_reset: true,
+            ..Answer::silent(DONE)
+        };
+        link.send_control(answer, dlc_packet::RESET_ACK, reply)
     }
 
     // RESET_ACK opens a link that waits for it.
-    pub(crate) fn reset_ack(mut self) -> Outcome
+    pub(crate) fn reset_ack(self) -> Outcome
         requires { well_formed self ≡ true }
         ensures { Returns view (reset_ack_step (view self) self.state) self result.link result.answer }
     {
-        let s = self.state;
-        match s {
-            State::Idle => silent(self, NO_ENTRY),
-            State::Reset => {
-                self = self.in_state(State::Data);
-                silent(self, DONE)
-            }
-            State::Data => silent(self, NO_ENTRY),
-            State::Wait => silent(self, NO_ENTRY),
+        match self.state {
+            State::Reset => self.in_state(State::Data).done(),
+            State::Idle | State::Data | State::Wait => self.refused(Refusal::NoEntry),
         }
     }
 
@@ -47,11 +46,10 @@ impl Link {
         requires { (well_formed self ≡ true) × (reply_size ≤ length reply.old) }
         ensures { Meets view (data_step (view self) self.state x) self reply.old reply.new result.link result.answer }
     {
-        let s = self.state;
-        if is_open(s) {
+        if self.is_open() {
             self.judge(x, reply)
         } else {
-            silent(self, NO_ENTRY)
+            self.refused(Refusal::NoEntry)
         }
     }
 
@@ -60,16 +58,17 @@ impl Link {
         requires { (well_formed self ≡ true) × ((is_open self.state ≡ true) × (reply_size ≤ length reply.old)) }
         ensures { Meets view (judged (view self) x) self reply.old reply.new result.link result.answer }
     {
-        let expected = self.expected;
-        let edition = self.edition;
-        if x == expected {
-            let next = dlc_packet::advanced(expected, 1);
-            self.expected = next;
-            let dack = dlc_packet::DACK + dlc_packet::dack_number(edition, next);
-            send_control(self, DONE, false, true, dack, reply)
+        if x == self.expected {
+            self.expected = dlc_packet::advanced(self.expected, 1);
+            let dack = dlc_packet::DACK + dlc_packet::dack_number(self.edition, self.expected);
+            let answer = Answer {
+                delivered: true,
+                ..Answer::silent(DONE)
+            };
+            self.send_control(answer, dack, reply)
         } else {
-            let dack = dlc_packet::DACK + dlc_packet::dack_number(edition, expected);
-            send_control(self, OTHER_NUMBER, false, false, dack, reply)
+            let dack = dlc_packet::DACK + dlc_packet::dack_number(self.edition, self.expected);
+            self.send_control(Answer::silent(OTHER_NUMBER), dack, reply)
         }
     }
 
@@ -78,68 +77,62 @@ impl Link {
         requires { well_formed self ≡ true }
         ensures { Returns view (dack_step (view self) self.state x) self result.link result.answer }
     {
-        let s = self.state;
-        match s {
-            State::Idle => silent(self, NO_ENTRY),
-            State::Reset => silent(self, NO_ENTRY),
-            State::Data => silent(self, NO_ENTRY),
+        match self.state {
+            State::Idle | State::Reset | State::Data => self.refused(Refusal::NoEntry),
             State::Wait => self.acknowledge(x),
         }
     }
 
     // DACK x while payloads wait: remove.
-    fn acknowledge(mut self, x: u8) -> Outcome
+    fn acknowledge(self, x: u8) -> Outcome
         requires { (well_formed self ≡ true) × (self.state ≡ State.Wait) }
         ensures { Returns view (acknowledged (view self) (distance_of (view self) x)) self result.link result.answer }
     {
-        let q = self.queue;
         let n = dlc_packet::dack_distance(self.edition, self.base, x);
         if n == 0 {
-            return silent(self, NO_ENTRY);
+            return self.refused(Refusal::NoEntry);
         }
-        let count = q.len();
-        if count < n as usize {
-            return silent(self, NO_ENTRY);
+        if self.queue.len() < usize::from(n) {
+            return self.refused(Refusal::NoEntry);
         }
-        self = self.without(n);
-        silent(self, DONE)
+        self.without(n).done()
     }
 
     // The link without its n oldest payloads.
-    fn without(mut self, n: u8) -> Link
+    fn without(self, n: u8) -> Link
         requires { (well_formed self ≡ true) × ((self.state ≡ State.Wait) × (n ≤ held self.queue)) }
         ensures { view result ≡ without (view self) n }
     {
-        let old = self.queue;
-        let q = old.remove(n as usize);
-        let s = open_state(q.len());
-        self.queue = q;
-        self.base = dlc_packet::advanced(self.base, n);
-        self.in_state(s)
+        let queue = self.queue.remove(usize::from(n));
+        Link {
+            state: open_state(queue.len()),
+            queue,
+            base: dlc_packet::advanced(self.base, n),
+            ..self
+        }
     }
 
     // The link with p queued behind the others.
-    fn with_payload(mut self, p: &[u8]) -> Link
+    fn with_payload(self, p: &[u8]) -> Link
         requires { (well_formed self ≡ true) × ((held self.queue < slots) × (length p.now ≤ max_payload)) }
         ensures { view result ≡ with_payload (view self) p.now }
     {
-        let old = self.queue;
-        let q = old.push(p);
-        self.queue = q;
-        self.in_state(State::Wait)
+        Link {
+            state: State::Wait,
+            queue: self.queue.push(p),
+            ..self
+        }
     }
 
     // A payload at an open link with room for it: queue, and send it at once, with the number behind those of the others. The timer repeats it
     // with them.
-    pub(crate) fn queue(mut self, p: &[u8], reply: &mut [u8]) -> Outcome
+    pub(crate) fn queue(self, p: &[u8], reply: &mut [u8]) -> Outcome
         requires { (well_formed self ≡ true) × ((held self.queue < slots) × ((length p.now ≤ max_payload) × (reply_size ≤ length reply.old))) }
         ensures { Meets view (queued (view self) p.now) self reply.old reply.new result.link result.answer }
     {
-        let old = self.queue;
-        let n = old.len();
-        let x = dlc_packet::advanced(self.base, n as u8);
-        self = self.with_payload(p);
-        send_one(self, DONE, false, false, dlc_packet::DATA + x, p, reply)
+        let x = dlc_packet::advanced(self.base, self.queue.len() as u8);
+        self.with_payload(p)
+            .send_one(Answer::silent(DONE), dlc_packet::DATA + x, p, reply)
     }
 
     // The timer while payloads wait: send all.
@@ -147,17 +140,13 @@ impl Link {
         requires { (well_formed self ≡ true) × (reply_size ≤ length reply.old) }
         ensures { Meets view (timer_step (view self) State.Wait) self reply.old reply.new result.link result.answer }
     {
-        let q = self.queue;
-        let base = self.base;
-        let lengths = dlc_send::send(q, base, reply);
+        let lengths = dlc_send::send(self.queue, self.base, reply);
         Outcome {
             link: self,
             answer: Answer {
-                code: DONE,
-                upper_reset: false,
-                delivered: false,
-                sent: q.len(),
-                lengths: lengths,
+                sent: self.queue.len(),
+                lengths,
+                ..Answer::silent(DONE)
             },
         }
     }

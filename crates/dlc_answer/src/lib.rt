@@ -3,6 +3,7 @@
 
 ghost use Rattle.std.specs.Prelude.{◌≡◌};
 ghost use Rattle.dlc_answer.specs.Delivered.{delivered_part};
+ghost use Rattle.dlc_answer.specs.Silent.{silent};
 
 use dlc_queue::Queue;
 
@@ -19,17 +20,26 @@ pub struct Answer {
 }
 
 impl Answer {
+    // A number alone: nothing sent, nothing for the upper layer.
+    pub fn silent(code: u8) -> Answer
+        ensures { result ≡ silent code }
+    {
+        Answer {
+            code,
+            upper_reset: false,
+            delivered: false,
+            sent: 0,
+            lengths: [0; Queue::SLOTS],
+        }
+    }
+
     // The payload that an arrival delivered, as a part of its packet; empty where it delivered none.
     pub fn payload(self, packet: &[u8]) -> &[u8]
         ensures { result.now ≡ delivered_part self.delivered packet.now }
     {
-        let delivered = self.delivered;
-        if delivered {
-            if 0 < packet.len() {
-                return &packet[1..];
-            }
-            return &packet[..0];
+        match packet {
+            [_, payload @ ..] if self.delivered => payload,
+            _ => &packet[..0],
         }
-        &packet[..0]
     }
 }

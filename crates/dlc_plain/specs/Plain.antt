@@ -2,9 +2,12 @@
 --
 --   view c     the model of a link in plain numbers; a state that is none of the four makes it ill formed
 --   link_of, plain_of     a link by its numbers, and the numbers of a link
-use Rattle.std.specs.Prelude.{ℕ, ◌&&◌, cond, leb, eqb}
+--   IsRead c r            what reading a link in plain numbers gives
+use Rattle.std.specs.Prelude.{ℕ, ◌<◌, ◌≤◌, ◌≡◌, ◌&&◌, cond, leb, eqb, Result, Ok, Err}
 use Rattle.dlc_table.specs.declared.State.{State}
 use Rattle.dlc_table.specs.declared.State.TheVariants.{Idle, Reset, Data, Wait}
+use Rattle.dlc_table.specs.declared.Refusal.{Refusal}
+use Rattle.dlc_table.specs.declared.Refusal.TheVariants.{BadLink}
 use Rattle.dlc_table.specs.Model.{Model}
 use Rattle.dlc.specs.declared.Link.{Link}
 use Rattle.dlc.specs.declared.Outcome.{Outcome}
@@ -50,6 +53,11 @@ plain_of l = plain_with l (number_of l.state)
 
 abbrev pub outcome_of : Outcome → PlainOutcome
 outcome_of o = record { link = plain_of o.link; answer = o.answer }
+
+-- what is read of a link in plain numbers: the link, or that its state is none of the four
+abbrev pub IsRead : PlainLink → Result Link Refusal → Type 0
+IsRead c (Ok l) = (c.state ≤ state_wait) × (l ≡ link_of c)
+IsRead c (Err r) = (state_wait < c.state) × (r ≡ BadLink)
 
 abbrev pub view : PlainLink → Model
 view c = seen (leb c.state state_wait && well_formed (link_of c)) (link_of c)

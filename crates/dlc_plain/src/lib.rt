@@ -3,15 +3,15 @@
 #![tactic(auto)]
 
 ghost use Rattle.std.specs.Prelude.{◌≡◌};
-ghost use Rattle.dlc_table.specs.Answers.{bad_link};
+ghost use Rattle.dlc_table.specs.Refused.{number_of as refusal_number};
 ghost use Rattle.dlc_table.specs.Events.{refuse};
 ghost use Rattle.dlc.specs.Calls.{answer_of, MakeCall, StartCall, TimerCall, PayloadCall, ArrivalCall};
-ghost use Rattle.dlc_plain.specs.Plain.{number_of, state_of, link_of, plain_of, outcome_of, view};
+ghost use Rattle.dlc_plain.specs.Plain.{number_of, plain_of, outcome_of, IsRead, view};
 
 use dlc::{Link, Outcome};
 use dlc_answer::Answer;
 use dlc_queue::Queue;
-use dlc_table::{BAD_LINK, State};
+use dlc_table::{Refusal, State};
 
 // The numbers of the states, in the paper's order.
 pub const STATE_IDLE: u8 = 0;
@@ -44,129 +44,117 @@ impl PlainLink {
     pub fn make(edition: u8) -> PlainOutcome
         ensures { MakeCall view edition result.link result.answer }
     {
-        plain_outcome(Link::make(edition))
+        Link::make(edition).into()
     }
 
     // The upper layer starts the link.
     pub fn start(self, reply: &mut [u8]) -> PlainOutcome
         ensures { StartCall view self reply.old reply.new result.link result.answer }
     {
-        if STATE_WAIT < self.state {
-            return self.bad_link();
+        match Link::try_from(self) {
+            Ok(link) => link.start(reply).into(),
+            Err(refusal) => self.refused(refusal),
         }
-        plain_outcome(self.link().start(reply))
     }
 
     // The timer runs out.
     pub fn timer(self, reply: &mut [u8]) -> PlainOutcome
         ensures { TimerCall view self reply.old reply.new result.link result.answer }
     {
-        if STATE_WAIT < self.state {
-            return self.bad_link();
+        match Link::try_from(self) {
+            Ok(link) => link.timer(reply).into(),
+            Err(refusal) => self.refused(refusal),
         }
-        plain_outcome(self.link().timer(reply))
     }
 
     // The upper layer hands a payload down.
     pub fn payload(self, p: &[u8], reply: &mut [u8]) -> PlainOutcome
         ensures { PayloadCall view self p.now reply.old reply.new result.link result.answer }
     {
-        if STATE_WAIT < self.state {
-            return self.bad_link();
+        match Link::try_from(self) {
+            Ok(link) => link.payload(p, reply).into(),
+            Err(refusal) => self.refused(refusal),
         }
-        plain_outcome(self.link().payload(p, reply))
     }
 
     // A packet arrives.
     pub fn arrival(self, packet: &[u8], reply: &mut [u8]) -> PlainOutcome
         ensures { ArrivalCall view self packet.now reply.old reply.new result.link result.answer }
     {
-        if STATE_WAIT < self.state {
-            return self.bad_link();
-        }
-        plain_outcome(self.link().arrival(packet, reply))
-    }
-
-    // The link that the numbers say; only for a state of the four.
-    fn link(self) -> Link
-        ensures { result ≡ link_of self }
-    {
-        let q = self.queue;
-        let s = state_of(self.state);
-        Link {
-            state: s,
-            queue: q,
-            base: self.base,
-            expected: self.expected,
-            edition: self.edition,
+        match Link::try_from(self) {
+            Ok(link) => link.arrival(packet, reply).into(),
+            Err(refusal) => self.refused(refusal),
         }
     }
 
-    // A value whose state is none of the four comes back as it is.
-    fn bad_link(self) -> PlainOutcome
-        ensures { result ≡ record { link = self; answer = answer_of (refuse (view self) bad_link) } }
+    // A value that is no link comes back as it is.
+    fn refused(self, refusal: Refusal) -> PlainOutcome
+        ensures { result ≡ record { link = self; answer = answer_of (refuse (view self) (refusal_number refusal)) } }
     {
         PlainOutcome {
             link: self,
-            answer: Answer {
-                code: BAD_LINK,
-                upper_reset: false,
-                delivered: false,
-                sent: 0,
-                lengths: [0; Queue::SLOTS],
-            },
+            answer: Answer::silent(refusal.into()),
         }
     }
 }
 
-// A state by its number; what is none of the four counts as the last.
-fn state_of(n: u8) -> State
-    ensures { result ≡ state_of n }
-{
-    if n == STATE_IDLE {
-        return State::Idle;
+// The link that the numbers say, where the state is one of the four.
+impl TryFrom<PlainLink> for Link {
+    type Error = Refusal;
+
+    ghost try_from_gives = { IsRead };
+
+    fn try_from(plain: PlainLink) -> Result<Link, Refusal> {
+        let state = match plain.state {
+            STATE_IDLE => State::Idle,
+            STATE_RESET => State::Reset,
+            STATE_DATA => State::Data,
+            STATE_WAIT => State::Wait,
+            _ => return Err(Refusal::BadLink),
+        };
+        Ok(Link {
+            state,
+            queue: plain.queue,
+            base: plain.base,
+            expected: plain.expected,
+            edition: plain.edition,
+        })
     }
-    if n == STATE_RESET {
-        return State::Reset;
-    }
-    if n == STATE_DATA {
-        return State::Data;
-    }
-    State::Wait
 }
 
-fn number_of(s: State) -> u8
-    ensures { result ≡ number_of s }
+impl From<Link> for PlainLink {
+    ghost from_gives = { λ link plain. plain ≡ plain_of link };
+
+    fn from(link: Link) -> PlainLink {
+        PlainLink {
+            state: number_of(link.state),
+            queue: link.queue,
+            base: link.base,
+            expected: link.expected,
+            edition: link.edition,
+        }
+    }
+}
+
+impl From<Outcome> for PlainOutcome {
+    ghost from_gives = { λ outcome plain. plain ≡ outcome_of outcome };
+
+    fn from(outcome: Outcome) -> PlainOutcome {
+        PlainOutcome {
+            link: outcome.link.into(),
+            answer: outcome.answer,
+        }
+    }
+}
+
+// The number of a state. No From: neither of the two types is of this crate.
+fn number_of(state: State) -> u8
+    ensures { result ≡ number_of state }
 {
-    match s {
+    match state {
         State::Idle => STATE_IDLE,
         State::Reset => STATE_RESET,
         State::Data => STATE_DATA,
         State::Wait => STATE_WAIT,
-    }
-}
-
-fn plain(l: Link) -> PlainLink
-    ensures { result ≡ plain_of l }
-{
-    let q = l.queue;
-    let s = l.state;
-    PlainLink {
-        state: number_of(s),
-        queue: q,
-        base: l.base,
-        expected: l.expected,
-        edition: l.edition,
-    }
-}
-
-fn plain_outcome(o: Outcome) -> PlainOutcome
-    ensures { result ≡ outcome_of o }
-{
-    let l = o.link;
-    let a = o.answer;
-    PlainOutcome {
-        link: plain(l),
-        answer: a,
     }
 }

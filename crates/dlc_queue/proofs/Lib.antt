@@ -1,5 +1,4 @@
 pub mod Limits
-pub mod Lists
 pub mod Short
 pub mod Shape
 pub mod Slots

@@ -1,16 +1,16 @@
 -- Laws of `all_short`: no payload is too long. Assumes nothing.
-use Prim.Native.Nat.{ℕ, zero, suc, ◌+◌, ◌<◌, ◌≤◌}
-use mathlib.Core.Path.{◌≡◌, ap}
-use mathlib.Core.Bool.{Bool, true, false, ◌&&◌}
+use Prim.Native.Nat.{ℕ, zero, suc, ◌≤◌}
+use mathlib.Core.Path.{◌≡◌, refl, ap}
+use Rattle.std.specs.List.{list_all}
+use mathlib.Core.Bool.{Bool, true, ◌&&◌}
 use mathlib.Core.List.{List, [], ◌∷◌, ◌++◌}
 use lib.Dec.{leb, lit≤}
-use lib.ListN.{length, get_or, take, drop}
-use borrow.Author.Tests.{le-leb, lt-leb, leb-true}
+use lib.ListN.{get_or, drop}
+use borrow.Author.Tests.{le-leb, leb-true}
 use Rattle.common.proofs.Bools.{and_both}
 use Rattle.dlc_packet.specs.Packet.{max_payload}
 use Rattle.dlc_queue.specs.declared.Payload.{Payload}
 use Rattle.dlc_queue.specs.Queue.{all_short}
-use Rattle.dlc_queue.proofs.Lists.{drop-take-cons}
 
 -- what an array gives past its end
 abbrev pub none : Payload
@@ -21,13 +21,10 @@ short_at_lem [] i e = lit≤ tt
 short_at_lem (p ∷ ps) zero e = leb-true p.len max_payload (and_both (leb p.len max_payload) (all_short ps) e).0
 short_at_lem (p ∷ ps) (suc i) e = short_at_lem ps i (and_both (leb p.len max_payload) (all_short ps) e).1
 
--- a search for one that is too long among the first n: it is here, or it is further on
-module _ (q : List Payload) (n i : ℕ) (h : n ≤ length q) (k : i < n) where
-  pub short_stops : max_payload < (get_or q i none).len → all_short (drop i (take n q)) ≡ false
-  short_stops over = rw (drop-take-cons q n i none h k) (simp (lt-leb _ _ over))
-
-  pub short_goes : (get_or q i none).len ≤ max_payload → all_short (drop i (take n q)) ≡ all_short (drop (i + 1) (take n q))
-  short_goes under = rw (drop-take-cons q n i none h k) (simp (le-leb _ _ under))
+-- the same as std's word for it
+pub short_all : (ps : List Payload) → list_all (λ p. leb p.len max_payload) ps ≡ all_short ps
+short_all [] = refl
+short_all (p ∷ ps) = ap (λ (b : Bool). leb p.len max_payload && b) (short_all ps)
 
 -- a short payload more
 pub short_snoc : (ps : List Payload) (x : Payload) → x.len ≤ max_payload → all_short (ps ++ (x ∷ [])) ≡ all_short ps

@@ -8,17 +8,13 @@ use mathlib.Core.List.{List, [], ◌∷◌, ◌++◌, map}
 use lib.ListN.{length, take, drop, set, length-map}
 use lib.Seq.{take-suc-set, length-take-le}
 use lib.Dec.{leb}
-use mir.Val.{Val}
-use denote.Laws.{Is}
-use borrow.Author.Tests.{le-leb, lt-leb, lt-ltb, le-ltb, leb-true, eqb-true}
+use borrow.Author.Tests.{le-leb, lt-ltb, leb-true, eqb-true}
 use Rattle.common.proofs.Bools.{and_both}
 use Rattle.dlc_packet.specs.Packet.{max_payload}
 use Rattle.dlc_queue.specs.declared.Payload.{Payload}
 use Rattle.dlc_queue.specs.declared.Queue.{Queue}
 use Rattle.dlc_queue.specs.Queue.{slots, octets_of, used, payloads, held, all_short, formed, at_rest, fresh, emptied, has_room, has_oldest, Pushed, Removed}
-use Rattle.dlc_queue.proofs.Lists.{map-drop, map_snoc}
-use Rattle.dlc_queue.specs.contracts.Queue as Q
-use Rattle.dlc_queue.proofs.Shape.{slots_long}
+use Rattle.std.proofs.lemmas.List.{drop-map, map-append}
 use Rattle.dlc_queue.proofs.Short.{short_snoc, short-drop}
 
 -- a test has one answer
@@ -37,10 +33,6 @@ module _ (q : Queue) where
   pub is_formed : q.count ≤ slots → all_short (used q) ≡ true → formed q ≡ true
   unfolding formed
   is_formed h e = simp (le-leb _ _ h, e)
-
-  pub over_formed : slots < q.count → formed q ≡ false
-  unfolding formed
-  over_formed h = rw (lt-leb _ _ h)
 
   pub within_formed : q.count ≤ slots → formed q ≡ all_short (used q)
   unfolding formed
@@ -65,26 +57,8 @@ emptied_formed q = empty_formed (emptied q) refl
 pub rest_held : (q : Queue) → at_rest q ≡ true → held q ≡ 0
 rest_held q e = eqb-true (held q) 0 e
 
--- of a queue that is owned, as many payloads as it says that it holds
-pub length-owned : (q : Queue) (vs : List Val) → Is Q.the_row q vs → formed q ≡ true → length (payloads q) ≡ held q
-length-owned q vs g e = length-payloads q (slots_long q vs g) (formed_count q e)
-
--- the queue after push, in its three cases
+-- the queue after push, where it can be queued
 module _ (q : Queue) (p : List ℕ) where
-  -- where it can't be queued, the queue as it came
-  pushed_kept : has_room q p ≡ false → Pushed q p q
-  pushed_kept e = record { count = λ t. absurd (differ e t); queue = λ t. absurd (differ e t); formed = λ t. absurd (differ e t); kept = λ _. refl }
-
-  pub pushed_full : slots ≤ q.count → Pushed q p q
-  pushed_full h =
-      let e : has_room q p ≡ false = rw (le-ltb _ _ h) in
-      pushed_kept e
-
-  pub pushed_over : q.count < slots → max_payload < length p → Pushed q p q
-  pushed_over h k =
-      let e : has_room q p ≡ false = rw (lt-ltb _ _ h, lt-leb _ _ k) in
-      pushed_kept e
-
   pub pushed_room : (x : Payload) → length q.slots ≡ slots → q.count < slots → length p ≤ max_payload → x.len ≡ length p → octets_of x ≡ p
       → Pushed q p (record { count = q.count + 1; slots = set q.slots q.count x })
   pushed_room x long h k n o =
@@ -94,7 +68,7 @@ module _ (q : Queue) (p : List ℕ) where
       let t : used r ≡ used q ++ (x ∷ []) = rw add-one (take-suc-set q.slots q.count x i) in
       record {
         count = λ _. refl;
-        queue = λ _. ap (map octets_of) t ∙ map_snoc octets_of (used q) x ∙ ap (λ (y : List ℕ). payloads q ++ (y ∷ [])) o;
+        queue = λ _. ap (map octets_of) t ∙ map-append octets_of (used q) (x ∷ []) ∙ ap (λ (y : List ℕ). payloads q ++ (y ∷ [])) o;
         formed =
             λ _. within_formed r (omega arith)
             ∙ ap all_short t
@@ -103,22 +77,8 @@ module _ (q : Queue) (p : List ℕ) where
         kept = λ t. absurd (differ t e);
       }
 
--- the queue after remove
+-- the queue after remove, where that many are there
 module _ (q : Queue) (n : ℕ) where
-  -- where that many are not there, the queue as it came
-  removed_kept : has_oldest q n ≡ false → Removed q n q
-  removed_kept e = record { count = λ t. absurd (differ e t); used = λ t. absurd (differ e t); kept = λ _. refl }
-
-  pub removed_over : slots < q.count → Removed q n q
-  removed_over h =
-      let e : has_oldest q n ≡ false = rw (lt-leb _ _ h) in
-      removed_kept e
-
-  pub removed_fewer : q.count ≤ slots → q.count < n → Removed q n q
-  removed_fewer h k =
-      let e : has_oldest q n ≡ false = rw (le-leb _ _ h, lt-leb _ _ k) in
-      removed_kept e
-
   pub removed_oldest : (r : List Payload) → q.count ≤ slots → n ≤ q.count → take (q.count - n) r ≡ drop n (used q)
       → Removed q n (record { count = q.count - n; slots = r })
   removed_oldest r h k t =
@@ -147,7 +107,7 @@ module _ (q r : Queue) (ok : formed q ≡ true) where
     remove_used = m.used oldest
 
     pub remove_payloads : payloads r ≡ drop n (payloads q)
-    remove_payloads = ap (map octets_of) remove_used ∙ map-drop octets_of n (used q)
+    remove_payloads = ap (map octets_of) remove_used ∙ sym (drop-map octets_of n (used q))
 
     pub remove_formed : formed r ≡ true
     remove_formed =

@@ -8,7 +8,7 @@ ghost use Rattle.dlc_queue.specs.Queue.{slots, octets_of, held, all_short, forme
 
 use dlc_packet::{MAX_PACKET, MAX_PAYLOAD};
 
-// A slot: a payload is the first len octets, the others are free.
+// A slot: a payload is the first len octets, the others are free. C programs hold it in this layout.
 #[repr(C)]
 #[derive(Clone, Copy)]
 pub struct Payload {
@@ -16,7 +16,18 @@ pub struct Payload {
     pub octets: [u8; MAX_PAYLOAD],
 }
 
-// The first count slots hold payloads, oldest first; the others are free.
+impl Payload {
+    // The octets of a payload that is not too long.
+    pub fn as_slice(&self) -> &[u8]
+        requires { self.now.len ≤ max_payload }
+        ensures { result.now ≡ octets_of self.now }
+    {
+        &self.octets[..self.len]
+    }
+}
+
+// The first count slots hold payloads, oldest first; the others are free. Its methods take it by value, as the link's do: where they took a
+// reference, the compiler kept the link around it whole, and the timer took a third longer.
 #[repr(C)]
 #[derive(Clone, Copy)]
 pub struct Queue {
@@ -48,8 +59,7 @@ impl Queue {
     pub fn len(self) -> usize
         ensures { result ≡ held self }
     {
-        let held = self.count;
-        held
+        self.count
     }
 
     // Whether this may be the queue of a link that was not opened yet: it holds nothing.
@@ -60,39 +70,33 @@ impl Queue {
     }
 
     // Frees all slots, whatever they hold.
-    pub fn emptied(mut self) -> Queue
+    pub fn emptied(self) -> Queue
         ensures { result ≡ emptied self }
     {
-        self.count = 0;
-        self
+        Queue { count: 0, ..self }
     }
 
     // Whether this is a queue: count and lengths within their limits.
+    #[tactic(auto, unfolding(crate::specs::Queue::formed))]
     pub fn well_formed(self) -> bool
         ensures { result ≡ formed self }
     {
-        let n = self.count;
-        if Queue::SLOTS < n {
-            return false;
-        }
-        let slots = self.slots;
-        all_short(slots, n)
+        self.count <= Queue::SLOTS && all_short(&self.slots[..self.count])
     }
 
     // Queues p behind the others; without room for it, or where it is too long, the queue comes back as it is.
+    #[tactic(auto, using(crate::proofs::Slots::pushed_room))]
     pub fn push(mut self, p: &[u8]) -> Queue
         ensures { Pushed self p.now result }
     {
-        let n = self.count;
-        if Queue::SLOTS <= n {
+        if Queue::SLOTS <= self.count {
             return self;
         }
         if MAX_PAYLOAD < p.len() {
             return self;
         }
-        let x = payload_of(p);
-        self.slots[n] = x;
-        self.count = n + 1;
+        self.slots[self.count] = payload_of(p);
+        self.count += 1;
         self
     }
 
@@ -107,29 +111,17 @@ impl Queue {
         if count < n {
             return self;
         }
-        let slots = self.slots;
-        let moved = moved_down(slots, count, n);
-        self.slots = moved;
+        self.slots.copy_within(n..count, 0);
         self.count = count - n;
         self
     }
 }
 
-// Whether none of the first n payloads is too long.
-fn all_short(q: [Payload; Queue::SLOTS], n: usize) -> bool
-    requires { n ≤ slots }
-    ensures { result ≡ all_short (take n q) }
+// Whether none of these payloads is too long.
+fn all_short(payloads: &[Payload]) -> bool
+    ensures { result ≡ all_short payloads.now }
 {
-    let mut i = 0;
-    while i < n {
-        let p = q[i];
-        let len = p.len;
-        if MAX_PAYLOAD < len {
-            return false;
-        }
-        i += 1;
-    }
-    true
+    payloads.iter().all(|p| p.len <= MAX_PAYLOAD)
 }
 
 // A payload that holds the octets of p.
@@ -137,27 +129,10 @@ fn payload_of(p: &[u8]) -> Payload
     requires { length p.now ≤ max_payload }
     ensures { (result.len ≡ length p.now) × (octets_of result ≡ p.now) }
 {
-    let mut slot = [0u8; MAX_PAYLOAD];
-    octets::put(p, &mut slot, 0);
+    let mut octets = [0; MAX_PAYLOAD];
+    octets[..p.len()].copy_from_slice(p);
     Payload {
         len: p.len(),
-        octets: slot,
+        octets,
     }
-}
-
-// The first count payloads without the n oldest, moved down to the front.
-fn moved_down(q: [Payload; Queue::SLOTS], count: usize, n: usize) -> [Payload; Queue::SLOTS]
-    requires { (n ≤ count) × (count ≤ slots) }
-    ensures { take (count - n) result ≡ drop n (take count q) }
-{
-    let mut r = q;
-    let mut i = 0;
-    let mut j = n;
-    while j < count {
-        let p = q[j];
-        r[i] = p;
-        i += 1;
-        j += 1;
-    }
-    r
 }

@@ -1,14 +1,15 @@
 -- Laws of sending the queue: one turn writes one packet, and what is left, written behind it, gives the whole. Assumes nothing.
-use Prim.Native.Nat.{ℕ, zero, suc, ◌+◌, ◌*◌, ◌<◌, ◌≤◌, zero-le}
+use Prim.Native.Nat.{ℕ, suc, ◌+◌, ◌*◌, ◌<◌, ◌≤◌}
 use native.Mathlib.Omega.{arith}
 use native.Mathlib.Numerals.{add-one}
 use mathlib.Core.Path.{◌≡◌, refl, sym, ap, ◌∙◌}
-use mathlib.Core.Bool.{true, false}
+use mathlib.Core.Bool.{Bool, true, false, ◌&&◌}
 use mathlib.Core.List.{List, [], ◌∷◌, map, flatten}
 use lib.ListN.{length, take, drop, get_or, set, replicate, length-append, length-map}
 use lib.Seq.{sets}
-use lib.Dec.{leb}
-use borrow.Author.Tests.{leb-true, le-leb, lt-leb, lt-ltb, le-ltb}
+use Rattle.std.proofs.lemmas.List.{length-take, drop-map}
+use lib.Dec.{leb, ltb}
+use borrow.Author.Tests.{leb-true, ltb-true, le-leb, lt-ltb}
 use Rattle.common.proofs.Buffer.{sets-++, sets-front}
 use Rattle.dlc_packet.specs.Numbers.{modulus, advance}
 use Rattle.dlc_packet.specs.Packet.{max_payload, data_packet, data_packets}
@@ -16,7 +17,8 @@ use Rattle.dlc_queue.specs.declared.Payload.{Payload}
 use Rattle.dlc_queue.specs.declared.Queue.{Queue}
 use Rattle.dlc_queue.specs.Queue.{slots, reply_size, octets_of, all_short, payloads, formed}
 use Rattle.dlc_send.specs.Send.{sending, Written, Sent}
-use Rattle.dlc_queue.proofs.Lists.{drop-take-cons, map-drop}
+use lib.Seq.{drop-cons}
+use Rattle.dlc_queue.proofs.Slots.{formed_count, formed_short}
 use Rattle.common.proofs.Bools.{and_both}
 use Rattle.dlc_queue.proofs.Short.{none}
 
@@ -34,13 +36,13 @@ pub length-data_packets : (x : ℕ) (ps : List (List ℕ)) → length (data_pack
 length-data_packets x [] = refl
 length-data_packets x (p ∷ ps) = ap suc (length-data_packets (advance x 1) ps)
 
--- the payload of slot i is the next to be sent
-pub next : (q : List Payload) (n i : ℕ) → n ≤ length q → i < n
-    → drop i (map octets_of (take n q)) ≡ octets_of (get_or q i none) ∷ drop (i + 1) (map octets_of (take n q))
-next q n i h k =
-    sym (map-drop octets_of i (take n q))
-    ∙ ap (map octets_of) (drop-take-cons q n i none h k)
-    ∙ ap (λ (t : List (List ℕ)). octets_of (get_or q i none) ∷ t) (map-drop octets_of (i + 1) (take n q))
+-- payload i is the next to be sent
+pub next : (q : List Payload) (i : ℕ) → i < length q
+    → drop i (map octets_of q) ≡ octets_of (get_or q i none) ∷ drop (i + 1) (map octets_of q)
+next q i h =
+    drop-map octets_of i q
+    ∙ ap (map octets_of) (drop-cons q i none h ∙ ap (λ (m : ℕ). get_or q i none ∷ drop m q) (sym (add-one i)))
+    ∙ ap (λ (t : List (List ℕ)). octets_of (get_or q i none) ∷ t) (sym (drop-map octets_of (i + 1) q))
 
 -- one packet, and then the others
 module _ (ps rest : List (List ℕ)) (p : List ℕ) (x : ℕ) (e : ps ≡ p ∷ rest) where
@@ -75,32 +77,31 @@ sent ps base out₀ out lengths s few room e f =
     let k : length (map length (data_packets base ps)) ≤ slots = rw (length-map (data_packets base ps) length, length-data_packets base ps) few in
     record { lengths = f ∙ sets-front (map length (data_packets base ps)) (replicate slots 0) k; reply = e ∙ sets-front (flatten (data_packets base ps)) out₀ h }
 
-length-take-≤ : (n : ℕ) (l : List ℕ) → length (take n l) ≤ n
-length-take-≤ zero l = zero-le
-length-take-≤ (suc n) [] = zero-le
-length-take-≤ (suc n) (x ∷ l) = let h = length-take-≤ n l in omega arith
-
 -- a queue that holds no payload that is too long sends none
 pub short_payloads : (ps : List Payload) → all_short ps ≡ true → Short (map octets_of ps)
 short_payloads [] e = tt
 short_payloads (p ∷ ps) e =
     let b = and_both (leb p.len max_payload) (all_short ps) e in
-    (omega (arith, length-take-≤ p.len p.octets, leb-true p.len max_payload b.0), short_payloads ps b.1)
+    (omega (arith, length-take p.len p.octets, leb-true p.len max_payload b.0), short_payloads ps b.1)
 
--- send, case by case: nothing is written where the queue or the number is none, or the buffer too short
+-- send: nothing is written where the queue or the number is none, or the buffer too short
 module _ (q : Queue) (x : ℕ) (m : List ℕ) where
-  unsent : sending q x (length m) ≡ [] → Sent q x m m (replicate slots 0)
+  -- the test of `send`
+  abbrev sendable : Bool
+  sendable = formed q && (ltb x modulus && leb reply_size (length m))
+
+  pub unsent : sendable ≡ false → Sent q x m m (replicate slots 0)
   unfolding flatten
   unsent e = rw e (record { lengths = refl; reply = refl })
 
-  pub unsent_queue : formed q ≡ false → Sent q x m m (replicate slots 0)
-  unsent_queue e = unsent (rw e)
+  pub sent_written : sendable ≡ true → (later counts : List ℕ) → Written (data_packets x (payloads q)) m later counts → Sent q x m later counts
+  sent_written e later counts w = rw e w
 
-  pub unsent_number : formed q ≡ true → modulus ≤ x → Sent q x m m (replicate slots 0)
-  unsent_number e h = unsent (rw (e, le-ltb _ _ h))
-
-  pub unsent_room : formed q ≡ true → x < modulus → length m < reply_size → Sent q x m m (replicate slots 0)
-  unsent_room e h k = unsent (rw (e, lt-ltb _ _ h, lt-leb _ _ k))
+  pub sendable_parts : sendable ≡ true → (q.count ≤ slots) × ((all_short (take q.count q.slots) ≡ true) × ((x < modulus) × (reply_size ≤ length m)))
+  sendable_parts e =
+      let b = and_both (formed q) (ltb x modulus && leb reply_size (length m)) e in
+      let n = and_both (ltb x modulus) (leb reply_size (length m)) b.1 in
+      (formed_count q b.0, (formed_short q b.0, (ltb-true _ _ n.0, leb-true _ _ n.1)))
 
   pub sent_all : formed q ≡ true → x < modulus → reply_size ≤ length m → sending q x (length m) ≡ data_packets x (payloads q)
   sent_all e h k = simp (e, lt-ltb _ _ h, le-leb _ _ k)

@@ -1,11 +1,11 @@
 // The queue of a DLC link sent: its payloads as DATA packets, one after another in a lent buffer. Definitions: specs/.
 #![tactic(auto)]
 
-ghost use Rattle.std.specs.Prelude.{◌≡◌, true, map, ◌+◌, ◌≤◌, ◌<◌, length, take};
+ghost use Rattle.std.specs.Prelude.{◌≡◌, true, map, ◌+◌, ◌≤◌, ◌<◌, ◌&&◌, ltb, leb, length};
 ghost use Rattle.std.proofs.lemmas.List.Edits.{sets};
 ghost use Rattle.dlc_packet.specs.Numbers.{modulus};
-ghost use Rattle.dlc_packet.specs.Packet.{max_payload, data_packet, data_packets};
-ghost use Rattle.dlc_queue.specs.Queue.{slots, reply_size, octets_of, all_short};
+ghost use Rattle.dlc_packet.specs.Packet.{data_packet, data_packets};
+ghost use Rattle.dlc_queue.specs.Queue.{slots, reply_size, octets_of, all_short, formed};
 ghost use Rattle.dlc_send.specs.Send.{Sent, Written};
 
 use dlc_packet::{DATA, MODULUS};
@@ -15,63 +15,42 @@ use dlc_queue::{Payload, Queue};
 pub fn send(q: Queue, base: u8, reply: &mut [u8]) -> [usize; Queue::SLOTS]
     ensures { Sent q base reply.old reply.new result }
 {
-    if q.well_formed() {
-        if MODULUS <= base {
-            return [0; Queue::SLOTS];
-        }
-        if reply.len() < Queue::REPLY_SIZE {
-            return [0; Queue::SLOTS];
-        }
-        let n = q.count;
-        let slots = q.slots;
-        send_slots(slots, n, base, reply)
-    } else {
-        [0; Queue::SLOTS]
+    if !sendable(q, base, reply.len()) {
+        return [0; Queue::SLOTS];
     }
+    send_payloads(&q.slots[..q.count], base, reply)
 }
 
-// Writes the octets of p into out from index at on.
-fn copy_octets(p: Payload, out: &mut [u8], at: usize)
-    requires { (p.len ≤ max_payload) × (at + p.len ≤ length out.old) }
-    ensures { out.new ≡ sets out.old at (octets_of p) }
+// Whether this is a queue, base a number, and room enough for a full queue of the longest payloads.
+fn sendable(q: Queue, base: u8, room: usize) -> bool
+    ensures { result ≡ (formed q && (ltb base modulus && leb reply_size room)) }
 {
-    let len = p.len;
-    let slot = p.octets;
-    octets::put(&slot[..len], out, at);
+    q.well_formed() && base < MODULUS && Queue::REPLY_SIZE <= room
 }
 
-// Writes DATA x with the octets of p at index at, and returns the packet's length.
-fn put_data(p: Payload, x: u8, out: &mut [u8], at: usize) -> usize
-    requires { (p.len ≤ max_payload) × ((x < modulus) × (at + 1 + p.len ≤ length out.old)) }
-    ensures { (result ≡ 1 + p.len) × (out.new ≡ sets out.old at (data_packet x (octets_of p))) }
+// Writes DATA x with a payload at index at, and returns the packet's length.
+fn put_data(payload: &[u8], x: u8, out: &mut [u8], at: usize) -> usize
+    requires { (x < modulus) × (at + 1 + length payload.now ≤ length out.old) }
+    ensures { (result ≡ 1 + length payload.now) × (out.new ≡ sets out.old at (data_packet x payload.now)) }
 {
     out[at] = DATA + x;
-    copy_octets(p, out, at + 1);
-    let len = p.len;
-    1 + len
+    octets::put(payload, out, at + 1);
+    1 + payload.len()
 }
 
-// Writes the first n payloads as DATA packets with the numbers from base on, and returns their lengths.
-fn send_slots(
-    q: [Payload; Queue::SLOTS],
-    n: usize,
-    base: u8,
-    out: &mut [u8],
-) -> [usize; Queue::SLOTS]
-    requires { (n ≤ slots) × ((all_short (take n q) ≡ true) × ((base < modulus) × (reply_size ≤ length out.old))) }
-    ensures { Written (data_packets base (map octets_of (take n q))) out.old out.new result }
+// Writes payloads as DATA packets with the numbers from base on, and returns their lengths.
+fn send_payloads(payloads: &[Payload], base: u8, out: &mut [u8]) -> [usize; Queue::SLOTS]
+    requires { (length payloads.now ≤ slots) × ((all_short payloads.now ≡ true) × ((base < modulus) × (reply_size ≤ length out.old))) }
+    ensures { Written (data_packets base (map octets_of payloads.now)) out.old out.new result }
 {
-    let mut lengths = [0usize; Queue::SLOTS];
+    let mut lengths = [0; Queue::SLOTS];
     let mut x = base;
     let mut at = 0;
-    let mut i = 0;
-    while i < n {
-        let p = q[i];
-        let k = put_data(p, x, out, at);
-        lengths[i] = k;
-        at += k;
+    for (i, p) in payloads.iter().enumerate() {
+        let length = put_data(p.as_slice(), x, out, at);
+        lengths[i] = length;
+        at += length;
         x = dlc_packet::advanced(x, 1);
-        i += 1;
     }
     lengths
 }

@@ -1,12 +1,12 @@
 -- Laws of the refusals that all calls share, and of those of a payload. Assumes nothing.
-use Prim.Native.Nat.{ℕ, ◌<◌, ◌≤◌, ◌*◌}
+use Prim.Native.Nat.{ℕ, ◌≤◌, ◌*◌}
 use native.Mathlib.Omega.{arith}
 use mathlib.Core.Path.{◌≡◌, refl, sym, ap, ◌∙◌}
 use mathlib.Core.Bool.{Bool, true, false, not}
 use mathlib.Core.List.{List, [], ◌∷◌, ◌++◌}
 use lib.ListN.{length}
-use lib.Dec.{ltb}
-use borrow.Author.Tests.{lt-ltb, le-ltb, le-leb, lt-leb, ltb-false, not-false}
+use lib.Dec.{ltb, leb}
+use borrow.Author.Tests.{le-ltb, le-leb, ltb-false, not-false}
 use Rattle.common.specs.Refusals.{Refusal, guarded}
 use Rattle.dlc_packet.specs.Packet.{max_payload, max_packet, kind_of}
 use Rattle.dlc_packet.specs.declared.Kind.{Kind}
@@ -15,6 +15,20 @@ use Rattle.dlc_table.specs.Model.{Model}
 use Rattle.dlc_table.specs.Events.{Effect, refuse, queued, is_open, call_refusals, payload_refusals}
 use Rattle.dlc_table.specs.Events.{start_of, timer_of, payload_of, arrival_of, start_step, timer_step, packet_step}
 use Rattle.dlc_table.specs.declared.State.{State}
+use Rattle.dlc_table.specs.declared.Refusal.{Refusal as Refused}
+use Rattle.dlc_table.specs.declared.Refusal.TheVariants.{NotOpen, PayloadTooLong, QueueFull, BadPacket, NoEntry, ReplyTooSmall, BadLink, BadEdition}
+use Rattle.dlc_table.specs.Refused.{number_of}
+
+-- no refusal has the number of done
+pub refusal_not_done : (r : Refused) → number_of r ≡ done → ⊥
+refusal_not_done NotOpen e = omega (arith, e)
+refusal_not_done PayloadTooLong e = omega (arith, e)
+refusal_not_done QueueFull e = omega (arith, e)
+refusal_not_done BadPacket e = omega (arith, e)
+refusal_not_done NoEntry e = omega (arith, e)
+refusal_not_done ReplyTooSmall e = omega (arith, e)
+refusal_not_done BadLink e = omega (arith, e)
+refusal_not_done BadEdition e = omega (arith, e)
 
 -- the two refusals by their tests: a number that is one of them is the refusal; 0 is none, and what comes after them is done
 first : (a b : Bool) (ts : List Refusal) (d : Effect) (f : ℕ → Effect) (c : ℕ) → guarded ((a, bad_link) ∷ (b, reply_too_small) ∷ []) (λ n. n) done ≡ c → (c ≡ done → ⊥)
@@ -77,19 +91,36 @@ module _ (limit : ℕ) (m : Model) (room c : ℕ) (e : c ≡ answered limit m ro
     unfolding arrival_of
     arrival_step packet k h = call_passed limit m room [] (packet_step m (kind_of packet)) c e z ∙ ap (λ (k : Kind). packet_step m k) h
 
-    module _ (p : List ℕ) where
-      past : payload_of limit m p room ≡ guarded (payload_refusals limit m p) (refuse m) (queued m p)
-      unfolding payload_of
-      past = call_passed limit m room (payload_refusals limit m p) (queued m p) c e z
+-- a payload, where the number of its first refusal is known, and where none applies
+stopped : (ts : List Refusal) (d : Effect) (f : ℕ → Effect) (c : ℕ) → c ≡ guarded ts (λ n. n) done → (c ≡ done → ⊥) → guarded ts f d ≡ f c
+stopped [] d f c e n = absurd (n e)
+stopped ((true, k) ∷ ts) d f c e n = ap f (sym e)
+stopped ((false, k) ∷ ts) d f c e n = stopped ts d f c e n
 
-      pub payload_too_long_lem : max_payload < length p → payload_of limit m p room ≡ refuse m payload_too_long
-      payload_too_long_lem h = past ∙ simp (lt-ltb _ _ h)
+passed : (a b x y z : Bool) (d : Effect) (f : ℕ → Effect)
+    → done ≡ guarded ((a, bad_link) ∷ (b, reply_too_small) ∷ (x, payload_too_long) ∷ (y, not_open) ∷ (z, queue_full) ∷ []) (λ n. n) done
+    → guarded ((a, bad_link) ∷ (b, reply_too_small) ∷ (x, payload_too_long) ∷ (y, not_open) ∷ (z, queue_full) ∷ []) f d ≡ d
+passed true b x y z d f e = absurd (omega (arith, e))
+passed false true x y z d f e = absurd (omega (arith, e))
+passed false false true y z d f e = absurd (omega (arith, e))
+passed false false false true z d f e = absurd (omega (arith, e))
+passed false false false false true d f e = absurd (omega (arith, e))
+passed false false false false false d f e = refl
 
-      pub payload-not_open : length p ≤ max_payload → is_open m.state ≡ false → payload_of limit m p room ≡ refuse m not_open
-      payload-not_open h o = past ∙ simp (le-ltb _ _ h, o)
+module _ (limit : ℕ) (m : Model) (p : List ℕ) (room : ℕ) where
+  -- what a payload call's refusals answer
+  abbrev pub payload_answered : ℕ
+  payload_answered = guarded (call_refusals limit m room ++ payload_refusals limit m p) (λ n. n) done
 
-      pub payload_full : length p ≤ max_payload → is_open m.state ≡ true → limit ≤ length m.queue → payload_of limit m p room ≡ refuse m queue_full
-      payload_full h o f = past ∙ simp (le-ltb _ _ h, o, le-leb _ _ f)
+  pub payload_stopped : (c : ℕ) → c ≡ payload_answered → (c ≡ done → ⊥) → payload_of limit m p room ≡ refuse m c
+  unfolding payload_of
+  payload_stopped c e n = stopped (call_refusals limit m room ++ payload_refusals limit m p) (queued m p) (refuse m) c e n
 
-      pub payload_queued : length p ≤ max_payload → is_open m.state ≡ true → length m.queue < limit → payload_of limit m p room ≡ queued m p
-      payload_queued h o f = past ∙ simp (le-ltb _ _ h, o, lt-leb _ _ f)
+  pub payload_passed : done ≡ payload_answered → payload_of limit m p room ≡ queued m p
+  unfolding payload_of
+  payload_passed e =
+      passed (not m.ok) (ltb room (limit * max_packet)) (ltb max_payload (length p)) (not (is_open m.state)) (leb limit (length m.queue)) (queued m p) (refuse m) e
+
+  -- a full queue is what is asked last
+  pub payload_full : done ≡ answered limit m room → length p ≤ max_payload → is_open m.state ≡ true → limit ≤ length m.queue → queue_full ≡ payload_answered
+  payload_full e h o f = simp (call_ok limit m room done e refl, le-ltb _ _ (call_room limit m room done e refl), le-ltb _ _ h, o, le-leb _ _ f)

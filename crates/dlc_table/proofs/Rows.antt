@@ -1,19 +1,20 @@
 -- Laws of the step table's rows, for whoever comes to one by tests. Assumes nothing.
-use Prim.Native.Nat.{ℕ, suc, ◌<◌, ◌≤◌}
+use Prim.Native.Nat.{ℕ, suc, ◌<◌}
 use native.Mathlib.Omega.{arith}
 use mathlib.Core.Path.{◌≡◌, refl, sym, ap, ◌∙◌}
 use mathlib.Core.Bool.{Bool, true, false, cond, ◌&&◌, false≢true}
+use mathlib.Core.Logic.{◌⊎◌, inl, inr}
 use mathlib.Core.List.{List, [], ◌∷◌, ◌++◌}
 use lib.ListN.{length}
 use lib.Dec.{ltb, leb}
-use borrow.Author.Tests.{lt-ltb, le-leb, lt-leb, eq-eqb, ne_eqb}
+use borrow.Author.Tests.{eq-eqb, ne_eqb}
 use Rattle.dlc_packet.specs.Numbers.{modulus, advance, edition1, edition_of, known_edition}
 use Rattle.dlc_packet.specs.Packet.{data_packet, data_packets}
 use Rattle.dlc_table.specs.declared.State.{State}
 use Rattle.dlc_table.specs.declared.State.TheVariants.{Idle, Reset, Data, Wait}
 use Rattle.dlc_table.specs.Answers.{done, no_entry, other_number, bad_edition}
 use Rattle.dlc_table.specs.Model.{Model, fresh}
-use Rattle.dlc_table.specs.Events.{Effect, effect, refuse, made_of, expect_next, dack_of, judged, data_step, is_open, without, distance_of, acknowledged, reset_ack_step, dack_step, timer_step, with_payload, queued}
+use Rattle.dlc_table.specs.Events.{Effect, effect, refuse, made_of, start_step, expect_next, dack_of, judged, data_step, is_open, without, distance_of, acknowledged, reset_ack_step, dack_step, timer_step, with_payload, queued}
 
 -- a link is made, by whether its edition is known
 pub made_known : (n : ℕ) → known_edition n ≡ true → made_of n ≡ effect done [] (fresh (edition_of n))
@@ -23,6 +24,16 @@ made_known n e = rw e
 pub made_unknown : (n : ℕ) → known_edition n ≡ false → made_of n ≡ refuse (fresh edition1) bad_edition
 unfolding made_of
 made_unknown n e = rw e
+
+-- start and the timer where the table has no entry
+pub start_none : (m : Model) (s : State) → s ≡ Reset ⊎ (s ≡ Data ⊎ s ≡ Wait) → start_step m s ≡ refuse m no_entry
+start_none m s (inl e) = ap (λ (s : State). start_step m s) e
+start_none m s (inr (inl e)) = ap (λ (s : State). start_step m s) e
+start_none m s (inr (inr e)) = ap (λ (s : State). start_step m s) e
+
+pub timer_none : (m : Model) (s : State) → s ≡ Idle ⊎ s ≡ Data → timer_step m s ≡ refuse m no_entry
+timer_none m s (inl e) = ap (λ (s : State). timer_step m s) e
+timer_none m s (inr e) = ap (λ (s : State). timer_step m s) e
 
 -- DATA with the expected number, and with another
 abbrev pub taken : Model → Effect
@@ -50,17 +61,6 @@ data_closed m Data x h = absurd (false≢true (sym h))
 data_closed m Wait x h = absurd (false≢true (sym h))
 
 module _ (m : Model) (n : ℕ) where
-  pub acknowledged_none : n ≡ 0 → acknowledged m n ≡ refuse m no_entry
-  acknowledged_none e = rw e
-
-  pub acknowledged_over : length m.queue < n → acknowledged m n ≡ refuse m no_entry
-  acknowledged_over h =
-      let p : 0 < n = omega arith in
-      simp (lt-ltb 0 n p, lt-leb n (length m.queue) h)
-
-  pub acknowledged_some : 0 < n → n ≤ length m.queue → acknowledged m n ≡ effect done [] (without m n)
-  acknowledged_some p h = simp (lt-ltb 0 n p, le-leb n (length m.queue) h)
-
   cond_silent : (b : Bool) (x y : Effect) → x.packets ≡ [] → y.packets ≡ [] → (cond b x y).packets ≡ []
   cond_silent true x y p q = p
   cond_silent false x y p q = q

@@ -2,8 +2,11 @@
 // Events: the table; Runs: lists of events), its laws and worked cases are in proofs/.
 #![tactic(auto)]
 
+ghost use Rattle.std.specs.Prelude.{◌≡◌};
+ghost use Rattle.dlc_table.specs.Refused.{number_of};
+
 // DLIDLE, DLRESET, DLDATA, DLDWAIT
-#[derive(Clone, Copy)]
+#[derive(Clone, Copy, Debug, PartialEq, Eq)]
 pub enum State {
     Idle,
     Reset,
@@ -31,3 +34,34 @@ pub const REPLY_TOO_SMALL: u8 = 26;
 pub const BAD_LINK: u8 = 27;
 
 pub const BAD_EDITION: u8 = 28;
+
+// Why an event changes nothing, or a link is not made as it was asked for.
+#[derive(Clone, Copy, Debug, PartialEq, Eq)]
+pub enum Refusal {
+    NotOpen,
+    PayloadTooLong,
+    QueueFull,
+    BadPacket,
+    NoEntry,
+    ReplyTooSmall,
+    BadLink,
+    BadEdition,
+}
+
+// The number that an event answers; C programs have it.
+impl From<Refusal> for u8 {
+    ghost from_gives = { λ refusal n. n ≡ number_of refusal };
+
+    fn from(refusal: Refusal) -> u8 {
+        match refusal {
+            Refusal::NotOpen => NOT_OPEN,
+            Refusal::PayloadTooLong => PAYLOAD_TOO_LONG,
+            Refusal::QueueFull => QUEUE_FULL,
+            Refusal::BadPacket => BAD_PACKET,
+            Refusal::NoEntry => NO_ENTRY,
+            Refusal::ReplyTooSmall => REPLY_TOO_SMALL,
+            Refusal::BadLink => BAD_LINK,
+            Refusal::BadEdition => BAD_EDITION,
+        }
+    }
+}

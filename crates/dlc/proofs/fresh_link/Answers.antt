@@ -8,4 +8,4 @@ use Rattle.dlc.proofs.fresh_link.Goals as goal
 pub returns : goal.returns
 returns c =
     let n = c.args.edition in
-    ap (λ (q : Queue). view (fresh_with n q)) c.new-q.ensures ∙ view_fresh n c.requires
+    ap (λ (q : Queue). view (fresh_with n q)) c.new.ensures ∙ view_fresh n c.requires

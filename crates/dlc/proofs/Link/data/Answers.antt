@@ -9,4 +9,4 @@ use Rattle.dlc.proofs.Link.data.Goals as goal
 pub returns-else-is_open : goal.returns-else-is_open
 returns-else-is_open c =
     let l = c.args.self in
-    refused_meets _ l no_entry _ _ (data_closed (view l) l.state c.args.x (sym c.is_open.ensures ∙ c.if-is_open.false)) c.silent.ensures
+    refused_meets _ l no_entry _ _ (data_closed (view l) l.state c.args.x (sym c.is_open.ensures ∙ c.if-is_open.false)) c.refused.ensures

@@ -7,12 +7,10 @@ use Rattle.dlc.proofs.Link.make.Goals as goal
 
 pub returns-then-known_edition : goal.returns-then-known_edition
 returns-then-known_edition c =
-    let s = c in
-    let n = s.args.edition in
-    made_returns n done _ _ _ (made_known n (sym s.known_edition.ensures ∙ s.if-known_edition.true)) c.fresh_link.ensures c.silent.ensures
+    let n = c.args.edition in
+    made_returns n done _ _ _ (made_known n (sym c.known_edition.ensures ∙ c.if-known_edition.true)) c.fresh_link.ensures c.done.ensures
 
 pub returns-else-known_edition : goal.returns-else-known_edition
 returns-else-known_edition c =
-    let s = c in
-    let n = s.args.edition in
-    made_returns n bad_edition _ _ _ (made_unknown n (sym s.known_edition.ensures ∙ s.if-known_edition.false)) c.fresh_link-else-known_edition.ensures c.silent-else-known_edition.ensures
+    let n = c.args.edition in
+    made_returns n bad_edition _ _ _ (made_unknown n (sym c.known_edition.ensures ∙ c.if-known_edition.false)) c.fresh_link-else-known_edition.ensures c.refused.ensures

@@ -2,6 +2,7 @@
 use Rattle.std.proofs.Common.{ℕ, ◌≡◌, refl, sym, ap, ◌∙◌, [], ◌∷◌, length, arith}
 use Rattle.dlc_packet.specs.Packet.{data_packet}
 use Rattle.dlc_table.specs.Events.{next_number, queued}
+use Rattle.dlc_queue.specs.Queue.{slots}
 use Rattle.dlc.specs.View.{view}
 use Rattle.dlc.proofs.Parts.{length-queue}
 use Rattle.dlc.proofs.Outcomes.{one_meets}
@@ -9,13 +10,10 @@ use Rattle.dlc.proofs.Link.queue.Goals as goal
 
 pub returns : goal.returns
 returns c =
-    let s = c in
-    let l = s.args.self in
-    let p = s.args.p.now in
-    let queue = c.len-n in
-    let number = c.advanced-x in
-    let linked = c.with_payload-self in
-    let n : queue.result ≡ length (view l).queue = queue.ensures ∙ sym (length-queue l _ s.well_formed.0 s.requires.0) in
-    let next : number.result ≡ next_number (view l) = omega (arith, number.ensures, n) in
-    one_meets (queued (view l) p) l linked.result (data_packet number.result p) _ _ _ refl
-    (ap (λ (x : ℕ). data_packet x p ∷ []) (sym next)) linked.ensures c.send_one.ensures
+    let l = c.args.self in
+    let p = c.args.p.now in
+    let long : length l.queue.slots ≡ slots = omega arith in
+    let n : c.len.result ≡ length (view l).queue = c.len.ensures ∙ sym (length-queue l long c.requires.0) in
+    let next : c.advanced-x.result ≡ next_number (view l) = omega (arith, c.advanced-x.ensures, n) in
+    one_meets (queued (view l) p) l c.with_payload.result (data_packet c.advanced-x.result p) _ _ _ refl
+    (ap (λ (x : ℕ). data_packet x p ∷ []) (sym next)) c.with_payload.ensures (rw c.silent.ensures at c.send_one.ensures)

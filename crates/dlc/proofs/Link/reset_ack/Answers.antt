@@ -14,5 +14,5 @@ pub returns-in-Reset : goal.returns-in-Reset
 returns-in-Reset c =
     let l = c.args.self in
     let e = c.in-Reset.is in
-    let v = ap view c.in_state-self.ensures ∙ view-in_state l c.requires Data (reset_fits l e (parts l c.requires).state) in
-    done_returns _ l c.in_state-self.result (in_state Data (view l)) _ (ap (λ (s : State). reset_ack_step (view l) s) e) v c.silent-in-Reset.ensures
+    let v = ap view c.in_state.ensures ∙ view-in_state l c.requires Data (reset_fits l e (parts l c.requires).state) in
+    done_returns _ l c.in_state.result (in_state Data (view l)) _ (ap (λ (s : State). reset_ack_step (view l) s) e) v c.done.ensures

@@ -1,21 +1,16 @@
 -- `Link::without`: what `remove`, `open_state` and `advanced` give makes the link that the table says. Assumes nothing.
-use Rattle.std.proofs.Common.{ℕ, ◌≡◌, ap, ◌∙◌, cond, eqb}
+use Rattle.std.proofs.Common.{ℕ, ◌≡◌, arith, ap, ◌∙◌, cond, eqb, length}
 use Rattle.dlc_table.specs.declared.State.TheVariants.{Data, Wait}
-use Rattle.dlc_queue.specs.Queue.{held}
-use Rattle.dlc.specs.View.{view}
+use Rattle.dlc_queue.specs.Queue.{slots, held}
 use Rattle.dlc.proofs.Parts.{length-queue}
 use Rattle.dlc.proofs.Views.{view_without}
 use Rattle.dlc.proofs.Link.without.Goals as goal
 
 pub returns : goal.returns
 returns c =
-    let moved = c.advanced in
-    let opened = c.open_state-s in
-    let counted = c.len in
-    let removed = c.remove-q in
-    let s = c in
-    let l = s.args.self in
-    let state : opened.result ≡ cond (eqb (held removed.result) 0) Data Wait = opened.ensures ∙ ap (λ (n : ℕ). cond (eqb n 0) Data Wait) counted.ensures in
-    ap view c.in_state.ensures
-    ∙ view_without l s.requires.0 removed.result s.args.n moved.result opened.result (length-queue l _ s.well_formed.0 s.requires.0) s.requires.1.1
-    removed.ensures moved.ensures state
+    let l = c.args.self in
+    let long : length l.queue.slots ≡ slots = omega arith in
+    let state : c.open_state.result ≡ cond (eqb (held c.remove-queue.result) 0) Data Wait =
+    c.open_state.ensures ∙ ap (λ (n : ℕ). cond (eqb n 0) Data Wait) c.len.ensures in
+    view_without l c.requires.0 c.remove-queue.result c.args.n c.advanced.result c.open_state.result (length-queue l long c.requires.0) c.requires.1.1
+    (rw c.from.ensures at c.remove-queue.ensures) c.advanced.ensures state

@@ -1,13 +1,11 @@
--- `PlainLink::timer`: the link's timer, where the state is one of the four. Assumes nothing.
-use Rattle.std.proofs.Common.{◌<◌, arith, length}
-use Rattle.dlc_plain.specs.Plain.{state_wait}
+-- `PlainLink::timer`: a state that is none of the four. Assumes nothing.
+use Rattle.std.proofs.Common.{length}
 use Rattle.dlc_plain.proofs.Conversions.{timer_bad, refused}
 use Rattle.dlc_plain.proofs.PlainLink.timer.Goals as goal
 
-pub returns-then-self-gt-STATE_WAIT : goal.returns-then-self-gt-STATE_WAIT
-returns-then-self-gt-STATE_WAIT c =
-    let args = c.args in
-    let l = args.self in
-    let before = args.reply.now in
-    let h : state_wait < l.state = omega (arith, c.if-self-gt-STATE_WAIT.true) in
-    refused l h _ before _ (timer_bad l h (length before)) c.bad_link.ensures
+pub returns-in-Err : goal.returns-in-Err
+returns-in-Err c =
+    let l = c.args.self in
+    let before = c.args.reply.now in
+    let bad = c.in-Err.ensures in
+    refused l bad.0 _ before _ (timer_bad l bad.0 (length before)) (rw bad.1 at c.refused.ensures)
