@@ -1,5 +1,5 @@
 -- Laws of room that is counted down, so that no sum can be more than a number holds. Assumes nothing.
-use Rattle.std.proofs.Common.{◌≡◌, ℕ, ◌+◌, ◌-◌, ◌*◌, ◌/◌, ◌<◌, ◌≤◌, Bool, true, false, ltb, leb, sym, refl, ◌∙◌, arith, ltb-false, ltb-true, le-leb}
+use Rattle.std.proofs.Common.{◌≡◌, ℕ, ◌+◌, ◌-◌, ◌<◌, ◌≤◌, Bool, true, false, ltb, leb, sym, refl, ◌∙◌, arith, ltb-false, ltb-true, le-leb}
 use borrow.Author.Tests.{lt-leb}
 
 -- two tests that hold together
@@ -9,13 +9,6 @@ tests_same a b c d p q = by (ltb a b) refl
     by : (t : Bool) → ltb a b ≡ t → ltb a b ≡ leb c d
     by true e = e ∙ sym (le-leb c d (p (ltb-true a b e)))
     by false e = e ∙ sym (lt-leb c d (q (ltb-false a b e)))
-
--- the longest frame of h, o and t octets has two each, and two flags
-pub longest_none : (h o t room : ℕ) → room / 2 < h + o → false ≡ leb (2 * (h + (o + t)) + 2) room
-longest_none h o t room p = sym (lt-leb (2 * (h + (o + t)) + 2) room (omega arith))
-
-pub longest_room : (h o t room : ℕ) → h ≤ room / 2 → o ≤ room / 2 - h → ltb t (room / 2 - h - o) ≡ leb (2 * (h + (o + t)) + 2) room
-longest_room h o t room p q = tests_same t (room / 2 - h - o) (2 * (h + (o + t)) + 2) room (λ k. omega arith) (λ k. omega arith)
 
 -- a closing flag fits behind pieces of f, h, o and t octets where something is left of the room
 pub pieces_room : (f h o t n room a b c d : ℕ) → n ≡ f + h + o + t + 1 → a ≡ room - f → b ≡ a - h → c ≡ b - o → d ≡ c - t → ltb 0 d ≡ leb n room

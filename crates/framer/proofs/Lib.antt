@@ -1,5 +1,5 @@
-pub mod Frame
-pub mod Blocks
+pub mod Pieces
+pub mod Parts
 pub mod Counting
 pub mod Written
 pub mod Either

@@ -49,3 +49,7 @@ module _ (ys m : List ℕ) where
 -- a frame has a closing flag
 pub frame_some : (writing : Writing) (at_flag : Bool) (b : List ℕ) → 0 < length (frame writing at_flag b)
 frame_some writing at_flag b = omega (arith, length-frame writing at_flag b)
+
+-- so an answer that is given where it fits is no 0
+pub frame_written : (writing : Writing) (at_flag : Bool) (b m : List ℕ) (n : ℕ) → n ≡ written_length (frame writing at_flag b) m → true ≡ leb (length (frame writing at_flag b)) (length m) → n ≡ 0 → ⊥
+frame_written writing at_flag b m n e v z = omega (arith, sym z ∙ e ∙ (written_fits (frame writing at_flag b) m (leb-true _ _ (sym v))).0, frame_some writing at_flag b)

@@ -2,56 +2,55 @@
 // specs/Write; a frame on the line: the crate framing, specs/Writing.
 #![tactic(auto)]
 
-ghost use Rattle.std.specs.Prelude.{◌≡◌, ◌≤◌, length};
+ghost use Rattle.std.specs.Prelude.{◌≡◌, ◌≤◌, length, is_some, unwrap_or, nat_le};
 ghost use Rattle.std.proofs.lemmas.List.Edits.{sets};
 ghost use Rattle.framing.specs.Writing.{opening};
 ghost use Rattle.escapes.specs.Escapes.{writing_of};
-ghost use Rattle.framer.specs.Write.{framed, written_length, written_into};
+ghost use Rattle.framer.specs.Write.{framed_by, written_length, written_into};
 
 use escapes::Escapes;
 
 mod put;
 mod room;
 
-// Writes one frame to the front of `out`: `head`, `octets` and `tail` one after another, of which the first and the last have a
-// few octets. Its length, or 0 where `out` has no room for it, and then nothing is written. `at_flag`: the line stands at a
-// flag already, so that the frame needs none to open it.
-pub fn write(
-    e: Escapes,
-    at_flag: bool,
-    head: &[u8],
-    octets: &[u8],
-    tail: &[u8],
-    out: &mut [u8],
-) -> usize
-    ensures value { result ≡ written_length (framed e at_flag head.now octets.now tail.now) out.old }
-    ensures out_after { out.new ≡ written_into (framed e at_flag head.now octets.now tail.now) out.old }
-{
-    if room::fits(e, at_flag, head, octets, tail, out.len()) {
-        return put_frame(e, at_flag, head, octets, tail, out);
-    }
-    0
+// What a frame holds, `head`, `octets` and `tail` one after another, of which the first and the last have a few octets. `at_flag`: the
+// line stands at a flag already, so that the frame needs none to open it. The escapes are handed over beside it: where two framings
+// share the writer, the compiler took them out of it by shifts, and a short frame took a third more instructions.
+#[derive(Clone, Copy)]
+pub struct Frame<'a> {
+    pub at_flag: bool,
+    pub head: &'a [u8],
+    pub octets: &'a [u8],
+    pub tail: &'a [u8],
 }
 
-// Puts a frame at the front of `out`, which has room for it; the number of its octets.
-fn put_frame(
-    e: Escapes,
-    at_flag: bool,
-    head: &[u8],
-    octets: &[u8],
-    tail: &[u8],
-    out: &mut [u8],
-) -> usize
-    requires { length (framed e at_flag head.now octets.now tail.now) ≤ length out.old }
-    ensures value { result ≡ length (framed e at_flag head.now octets.now tail.now) }
-    ensures out_after { out.new ≡ sets out.old 0 (framed e at_flag head.now octets.now tail.now) }
+// Writes one frame to the front of `out`. Its length, or `None` where `out` has no room for it, and then nothing is written.
+pub fn write(e: Escapes, frame: Frame<'_>, out: &mut [u8]) -> Option<usize>
+    ensures value { unwrap_or result 0 ≡ written_length (framed_by e frame.entry) out.old }
+    ensures variant { is_some result ≡ nat_le (length (framed_by e frame.entry)) (length out.old) }
+    ensures out_after { out.new ≡ written_into (framed_by e frame.entry) out.old }
 {
-    let start = put_opening(e, at_flag, out);
-    let first = put::put_each(e, false, head, out, start);
-    let last = put::put_octets(e, octets, out, first);
-    let end = put::put_each(e, false, tail, out, last);
-    out[end] = e.flag;
-    end + 1
+    if frame.fits(e, out.len()) {
+        return Some(frame.put(e, out));
+    }
+    None
+}
+
+impl Frame<'_> {
+    // Puts the frame at the front of `out`, which has room for it; the number of its octets.
+    #[tactic(auto, using(crate::proofs::Pieces::length_pieces))]
+    fn put(self, e: Escapes, out: &mut [u8]) -> usize
+        requires { length (framed_by e self) ≤ length out.old }
+        ensures value { result ≡ length (framed_by e self.entry) }
+        ensures out_after { out.new ≡ sets out.old 0 (framed_by e self.entry) }
+    {
+        let start = put_opening(e, self.at_flag, out);
+        let first = put::put_each(e, false, self.head, out, start);
+        let last = put::put_octets(e, self.octets, out, first);
+        let end = put::put_each(e, false, self.tail, out, last);
+        out[end] = e.flag;
+        end + 1
+    }
 }
 
 // The opening flag, unless the line stands at one.

@@ -1,6 +1,6 @@
 // Octets, escaped, put down from an index of the buffer on; the index after them. The buffer has room for them and for one octet
 // more, since a flag always follows.
-ghost use Rattle.std.specs.Prelude.{◌≡◌, ◌+◌, ◌%◌, ◌<◌, length, if◌then◌else◌};
+ghost use Rattle.std.specs.Prelude.{◌≡◌, ◌+◌, ◌%◌, ◌<◌, ◌≤◌, length, if◌then◌else◌};
 ghost use Rattle.std.proofs.lemmas.List.Edits.{sets};
 ghost use Rattle.framing.specs.Writing.{escaped_one, escaped};
 ghost use Rattle.escapes.specs.Escapes.{is_escaped, behind, writing_of};
@@ -20,9 +20,9 @@ pub(crate) fn put_octets(e: Escapes, octets: &[u8], out: &mut [u8], at: usize) -
     ensures out_after { out.new ≡ sets out.old at (escaped (writing_of e) octets.now) }
 {
     let n = octets.len();
-    let whole = n - n % BLOCK;
-    let mid = put_blocks(e, &octets[..whole], out, at);
-    put_rest(e, &octets[whole..], out, mid)
+    let (blocks, rest) = octets.split_at(n - n % BLOCK);
+    let mid = put_blocks(e, blocks, out, at);
+    put_rest(e, rest, out, mid)
 }
 
 // Whole blocks.
@@ -33,20 +33,17 @@ fn put_blocks(e: Escapes, octets: &[u8], out: &mut [u8], at: usize) -> usize
     ensures out_after { out.new ≡ sets out.old at (escaped (writing_of e) octets.now) }
 {
     let mut to = at;
-    let mut i = 0;
-    while i < octets.len() {
-        let next = i + BLOCK;
-        let many = many_escaped(i, std::num::wrapping_sub_usize(to, at));
-        to = put_block(e, many, &octets[i..next], out, to);
-        i = next;
+    for (i, block) in octets.chunks_exact(BLOCK).enumerate() {
+        let many = many_escaped(i, to.wrapping_sub(at));
+        to = put_block(e, many, block, out, to);
     }
     to
 }
 
-// Whether more than one octet in a block was escaped so far: so many octets took so many places. It says nothing of what is put
+// Whether more than one octet in a block was escaped so far: so many blocks took so many places. It says nothing of what is put
 // down, only which way is the faster one.
-fn many_escaped(octets: usize, places: usize) -> bool {
-    octets / BLOCK < std::num::wrapping_sub_usize(places, octets)
+fn many_escaped(blocks: usize, places: usize) -> bool {
+    blocks < places.wrapping_sub(blocks.wrapping_mul(BLOCK))
 }
 
 // One block: most have no octet that is escaped, and go out as they are.
@@ -57,18 +54,28 @@ fn put_block(e: Escapes, many: bool, octets: &[u8], out: &mut [u8], at: usize) -
     ensures out_after { out.new ≡ sets out.old at (escaped (writing_of e) octets.now) }
 {
     if e.all_plain(octets) {
-        let block = eight(octets);
-        return octets::put(&block, out, at);
+        return put_plain(&eight(octets), out, at);
     }
     put_each(e, many, octets, out, at)
 }
 
-// The octets of a block. All are read before the first is put down, so that the compiler may move them at once.
+// The octets of a block. All are read before the first is put down, so that the compiler moves them at once.
 fn eight(o: &[u8]) -> [u8; 8]
     requires { length o.now ≡ 8 }
     ensures { result ≡ o.now }
 {
     [o[0], o[1], o[2], o[3], o[4], o[5], o[6], o[7]]
+}
+
+// Octets that go out as they are.
+fn put_plain(octets: &[u8], out: &mut [u8], at: usize) -> usize
+    requires { at + length octets.now ≤ length out.old }
+    ensures value { result ≡ at + length octets.now }
+    ensures out_after { out.new ≡ sets out.old at octets.now }
+{
+    let end = at + octets.len();
+    out[at..end].copy_from_slice(octets);
+    end
 }
 
 // What is left: half a block as it is, where that is there and none of it is escaped; the others one by one.
@@ -80,9 +87,10 @@ fn put_rest(e: Escapes, octets: &[u8], out: &mut [u8], at: usize) -> usize
     if octets.len() < HALF {
         return put_each(e, false, octets, out, at);
     }
-    if e.all_plain(&octets[..HALF]) {
-        let mid = octets::put(&octets[..HALF], out, at);
-        return put_each(e, false, &octets[HALF..], out, mid);
+    let (half, rest) = octets.split_at(HALF);
+    if e.all_plain(half) {
+        let mid = put_plain(half, out, at);
+        return put_each(e, false, rest, out, mid);
     }
     put_each(e, true, octets, out, at)
 }
@@ -94,10 +102,8 @@ pub(crate) fn put_each(e: Escapes, many: bool, octets: &[u8], out: &mut [u8], at
     ensures out_after { out.new ≡ sets out.old at (escaped (writing_of e) octets.now) }
 {
     let mut to = at;
-    let mut i = 0;
-    while i < octets.len() {
-        to = put_octet(e, many, octets[i], out, to);
-        i += 1;
+    for x in octets {
+        to = put_octet(e, many, *x, out, to);
     }
     to
 }
@@ -144,14 +150,16 @@ fn first(e: Escapes, x: u8) -> u8
 fn second(e: Escapes, x: u8, kept: u8) -> u8
     ensures { result ≡ (if is_escaped e x then behind e x else kept) }
 {
-    let d = pick(e.others & (x == e.fourth), e.behind_fourth, kept);
-    let c = pick(e.others & (x == e.third), e.behind_third, d);
-    let b = pick(x == e.escape, e.behind_escape, c);
-    pick(x == e.flag, e.behind_flag, b)
-}
-
-fn pick(is: bool, x: u8, y: u8) -> u8
-    ensures { result ≡ (if is then x else y) }
-{
-    if is { x } else { y }
+    let d = if e.others & (x == e.fourth) {
+        e.behind_fourth
+    } else {
+        kept
+    };
+    let c = if e.others & (x == e.third) {
+        e.behind_third
+    } else {
+        d
+    };
+    let b = if x == e.escape { e.behind_escape } else { c };
+    if x == e.flag { e.behind_flag } else { b }
 }

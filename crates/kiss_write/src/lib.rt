@@ -4,6 +4,7 @@
 ghost use Rattle.std.specs.Prelude.{◌≡◌};
 ghost use Rattle.kiss_write.specs.Write.{write_frame};
 
+use framer::Frame;
 use qaft_write::Written;
 
 fn refused(number: u8) -> Written
@@ -26,12 +27,17 @@ pub fn write_frame(at_flag: bool, payload: &[u8], out: &mut [u8]) -> Written
     }
     let e = kiss::escapes();
     let kind = [kiss::DATA_TYPE];
-    let n = framer::write(e, at_flag, &kind, payload, &payload[..0], out);
-    if n == 0 {
+    let frame = Frame {
+        at_flag,
+        head: &kind,
+        octets: payload,
+        tail: &payload[..0],
+    };
+    let Some(length) = framer::write(e, frame, out) else {
         return refused(kiss::OUT_TOO_SMALL);
-    }
+    };
     Written {
         number: qaft::DONE,
-        length: n,
+        length,
     }
 }

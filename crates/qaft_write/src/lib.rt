@@ -4,6 +4,8 @@
 ghost use Rattle.std.specs.Prelude.{◌≡◌};
 ghost use Rattle.qaft_write.specs.Write.{write_frame};
 
+use framer::Frame;
+
 // The writer's answer: a number of document 01, and how many octets of the out buffer were written.
 #[repr(C)]
 #[derive(Clone, Copy)]
@@ -39,12 +41,17 @@ pub fn write_frame(level: u8, check_kind: u8, at_flag: bool, data: &[u8], out: &
     let e = qaft::escapes(level);
     let check = qaft::check_octets(check_kind, data);
     let size = qaft::check_size(check_kind);
-    let n = framer::write(e, at_flag, &data[..0], data, &check[..size], out);
-    if n == 0 {
+    let frame = Frame {
+        at_flag,
+        head: &data[..0],
+        octets: data,
+        tail: &check[..size],
+    };
+    let Some(length) = framer::write(e, frame, out) else {
         return refused(qaft::OUT_TOO_SMALL);
-    }
+    };
     Written {
         number: qaft::DONE,
-        length: n,
+        length,
     }
 }

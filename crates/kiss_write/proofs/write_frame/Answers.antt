@@ -1,5 +1,6 @@
 -- One law a refusal, and one for the frame written.
-use Rattle.std.proofs.Common.{◌≡◌, sym, ap, ◌∙◌}
+use Rattle.std.proofs.Common.{◌≡◌, refl, sym, ap, ◌∙◌}
+use Rattle.framer.proofs.Written.{frame_written}
 use Rattle.kiss.specs.Answers.{out_too_small}
 use Rattle.kiss_write.proofs.Refusals.{write-no_data, write-data_too_long, write-unfit, write-fit}
 use Rattle.kiss_write.specs.Write.{write_frame}
@@ -7,7 +8,7 @@ use Rattle.qaft.specs.Answers.{no_data, data_too_long, done}
 use Rattle.qaft_write.specs.Answer.{Outcome, refusal}
 use Rattle.qaft_write.specs.declared.Written.{Written}
 use Rattle.kiss_write.proofs.write_frame.Goals as goal
-use Rattle.kiss_write.proofs.write_frame.Goals.{Then-payload-eq0, Then-payload-gt-MAX_DATA, Then-n-eq0, Else-n-eq0}
+use Rattle.kiss_write.proofs.write_frame.Goals.{Then-payload-eq0, Then-payload-gt-MAX_DATA, In_default, In-Some}
 
 none : (c : Then-payload-eq0) → write_frame c.args.at_flag c.args.payload.now c.args.out.now ≡ refusal c.args.out.now no_data
 none c = write-no_data _ _ _ c.if-payload-eq0.true
@@ -31,22 +32,24 @@ pub returns-then-payload-gt-MAX_DATA-clause-out_after : goal.returns-then-payloa
 unfolding refusal
 returns-then-payload-gt-MAX_DATA-clause-out_after c = sym (ap (λ (o : Outcome). o.buffer) (long (goal.at.returns-then-payload-gt-MAX_DATA-clause-out_after c).Then-payload-gt-MAX_DATA))
 
-unfit : (c : Then-n-eq0)
-    → (◌≡◌ {A = Written} (record { number = out_too_small; length = 0 }) (write_frame c.args.at_flag c.args.payload.now c.args.out.now).answer) × (c.write-n.new.out ≡ (write_frame c.args.at_flag c.args.payload.now c.args.out.now).buffer)
-unfit c = write-unfit _ _ _ c.if-payload-eq0.false c.if-payload-gt-MAX_DATA.false _ c.escapes-e.ensures _ _ c.write-n.ensures.value c.write-n.ensures.out_after c.if-n-eq0.true
+unfit : (c : In_default)
+    → (◌≡◌ {A = Written} (record { number = out_too_small; length = 0 }) (write_frame c.args.at_flag c.args.payload.now c.args.out.now).answer) × (c.write.new.out ≡ (write_frame c.args.at_flag c.args.payload.now c.args.out.now).buffer)
+unfit c = write-unfit _ _ _ c.if-payload-eq0.false c.if-payload-gt-MAX_DATA.false _ c.escapes-e.ensures _ _ c.in_default.ensures.value c.in_default.ensures.out_after refl
 
-fit : (c : Else-n-eq0)
-    → (◌≡◌ {A = Written} (record { number = done; length = c.write-n.result }) (write_frame c.args.at_flag c.args.payload.now c.args.out.now).answer) × (c.write-n.new.out ≡ (write_frame c.args.at_flag c.args.payload.now c.args.out.now).buffer)
-fit c = write-fit _ _ _ c.if-payload-eq0.false c.if-payload-gt-MAX_DATA.false _ c.escapes-e.ensures _ _ c.write-n.ensures.value c.write-n.ensures.out_after c.if-n-eq0.false
+fit : (c : In-Some)
+    → (◌≡◌ {A = Written} (record { number = done; length = c.in-Some.length }) (write_frame c.args.at_flag c.args.payload.now c.args.out.now).answer) × (c.write.new.out ≡ (write_frame c.args.at_flag c.args.payload.now c.args.out.now).buffer)
+fit c =
+    write-fit _ _ _ c.if-payload-eq0.false c.if-payload-gt-MAX_DATA.false _ c.escapes-e.ensures _ _ c.in-Some.ensures.value c.in-Some.ensures.out_after
+    (frame_written _ _ _ _ _ c.in-Some.ensures.value c.in-Some.ensures.variant)
 
-pub returns-then-n-eq0-clause-value : goal.returns-then-n-eq0-clause-value
-returns-then-n-eq0-clause-value c = c.refused-then-n-eq0.ensures ∙ (unfit (goal.at.returns-then-n-eq0-clause-value c).Then-n-eq0).0
+pub returns-in_default-clause-value : goal.returns-in_default-clause-value
+returns-in_default-clause-value c = c.refused-in_default.ensures ∙ (unfit (goal.at.returns-in_default-clause-value c).In_default).0
 
-pub returns-then-n-eq0-clause-out_after : goal.returns-then-n-eq0-clause-out_after
-returns-then-n-eq0-clause-out_after c = (unfit (goal.at.returns-then-n-eq0-clause-out_after c).Then-n-eq0).1
+pub returns-in_default-clause-out_after : goal.returns-in_default-clause-out_after
+returns-in_default-clause-out_after c = (unfit (goal.at.returns-in_default-clause-out_after c).In_default).1
 
 pub returns-clause-value : goal.returns-clause-value
-returns-clause-value c = (fit (goal.at.returns-clause-value c).Else-n-eq0).0
+returns-clause-value c = (fit (goal.at.returns-clause-value c).In-Some).0
 
 pub returns-clause-out_after : goal.returns-clause-out_after
-returns-clause-out_after c = (fit (goal.at.returns-clause-out_after c).Else-n-eq0).1
+returns-clause-out_after c = (fit (goal.at.returns-clause-out_after c).In-Some).1

@@ -1,5 +1,5 @@
--- `framer::put::put_blocks` meets its contract. The loop's invariant: what is left, put down from here, gives the whole. Assumes nothing.
-use Rattle.std.proofs.Common.{◌≡◌, ◌+◌, ◌-◌, ◌%◌, ◌≤◌, length, drop}
+-- What is left, put down from here, gives the whole.
+use Rattle.std.proofs.Common.{◌≡◌, ◌+◌, ◌%◌, length}
 use lib.Seq.{sets}
 use Rattle.framing.specs.Writing.{escaped}
 use Rattle.escapes.specs.Escapes.{writing_of}
@@ -7,11 +7,8 @@ use Rattle.framer.proofs.put.put_blocks.Given as goal
 
 abbrev pub invariant-loop-i : goal.invariant-loop-i
 invariant-loop-i l =
-    (l.i ≤ length l.octets)
-    × (length l.out ≡ length l.initial.out)
-    × (l.to + length (escaped (writing_of l.e) (drop l.i l.octets)) ≡ l.at + length (escaped (writing_of l.e) l.octets))
-    × (sets l.out l.to (escaped (writing_of l.e) (drop l.i l.octets)) ≡ sets l.initial.out l.at (escaped (writing_of l.e) l.octets))
-    × (l.i % 8 ≡ 0)
-
-abbrev pub decreases-loop-i : goal.decreases-loop-i
-decreases-loop-i l = length l.octets - l.i
+    let blocks = l.i-iterator.iter in
+    let whole = escaped (writing_of l.e) l.octets in
+    let left = escaped (writing_of l.e) blocks.rest.now in
+    (length l.out ≡ length l.initial.out) × (blocks.size ≡ 8) × (length blocks.rest.now % 8 ≡ 0)
+    × (l.to + length left ≡ l.at + length whole) × (sets l.out l.to left ≡ sets l.initial.out l.at whole)

@@ -1,62 +1,27 @@
--- `framer::put::put_rest` meets its contract: two parts, of which the first goes out as it is. Assumes nothing.
-use Rattle.std.proofs.Common.{◌≡◌, ◌+◌, ◌≤◌, length, take, sym, ◌∙◌, arith, length-take-le}
-use lib.Seq.{sets}
+use Rattle.std.proofs.Common.{ℕ, ◌+◌, sym, ap, ◌∙◌, arith}
 use Rattle.escapes.specs.Escapes.{writing_of}
-use Rattle.framer.proofs.Blocks.{end_as_is, into_as_is}
-use Rattle.framing.proofs.Escaping.{length-parts, sets-parts}
-use Rattle.framing.specs.Writing.{escaped}
+use Rattle.framer.proofs.Parts.{split_length, split_into, length_as_is, into_as_is}
 use Rattle.framer.proofs.put.put_rest.Goals as goal
 
-pub put_each-requires : goal.put_each-requires
-put_each-requires c = c.requires
-
-pub returns-then-octets-lt-HALF : goal.returns-then-octets-lt-HALF
-returns-then-octets-lt-HALF c = c.put_each.ensures
-
-pub slice_bounds-all_plain-end : goal.slice_bounds-all_plain-end
-slice_bounds-all_plain-end c = sym (length-take-le 4 c.args.octets.now (omega (arith, c.if-octets-lt-HALF.false)))
-
-pub slice_bounds-put-end : goal.slice_bounds-put-end
-slice_bounds-put-end c =
-    let t = c in
-    sym (length-take-le 4 t.args.octets.now (omega (arith, t.if-octets-lt-HALF.false)))
+pub put_plain-mid-requires : goal.put_plain-mid-requires
+put_plain-mid-requires c =
+    let n = split_length (writing_of c.args.e) 4 c.args.octets.now c.split_at.result.0.now c.split_at.result.1.now c.split_at.ensures.front c.split_at.ensures.back in
+    omega (arith, n, length_as_is (writing_of c.args.e) c.split_at.result.0.now (sym c.if-all_plain.ensures), c.requires)
 
 pub put_each-requires-then-all_plain : goal.put_each-requires-then-all_plain
 put_each-requires-then-all_plain c =
-    let half : let s = c.args in let front = escaped (writing_of s.e) (take 4 s.octets.now) in (c.put-mid.result ≡ s.at + length front) × (c.put-mid.new.out ≡ sets s.out.now s.at front) = (let start = c in
-    let s = start.args in
-    let w = writing_of s.e in
-    let front = take 4 s.octets.now in
-    let plain = sym c.all_plain.ensures ∙ c.if-all_plain.true in
-    let room : s.at + length (escaped w front) ≤ length s.out.now = omega (arith, length-parts w s.octets.now 4, start.requires) in
-    (c.put-mid.ensures.value ∙ end_as_is w front s.out.now s.at plain room, c.put-mid.ensures.out_after ∙ into_as_is w front s.out.now s.at plain room)) in
-    let p = c in
-    let start = p in
-    let s = start.args in
-    omega (arith, length-parts (writing_of s.e) s.octets.now 4, (half).0, p.put-mid.auto.out, start.requires)
+    let n = split_length (writing_of c.args.e) 4 c.args.octets.now c.split_at.result.0.now c.split_at.result.1.now c.split_at.ensures.front c.split_at.ensures.back in
+    omega (arith, n, length_as_is (writing_of c.args.e) c.split_at.result.0.now (sym c.if-all_plain.ensures), c.put_plain-mid.ensures.value, c.put_plain-mid.auto.out, c.requires)
 
 pub returns-then-all_plain : goal.returns-then-all_plain
 returns-then-all_plain c =
-    let half : let s = c.args in let front = escaped (writing_of s.e) (take 4 s.octets.now) in (c.put-mid.result ≡ s.at + length front) × (c.put-mid.new.out ≡ sets s.out.now s.at front) = (let start = c in
-    let s = start.args in
-    let w = writing_of s.e in
-    let front = take 4 s.octets.now in
-    let plain = sym c.all_plain.ensures ∙ c.if-all_plain.true in
-    let room : s.at + length (escaped w front) ≤ length s.out.now = omega (arith, length-parts w s.octets.now 4, start.requires) in
-    (c.put-mid.ensures.value ∙ end_as_is w front s.out.now s.at plain room, c.put-mid.ensures.out_after ∙ into_as_is w front s.out.now s.at plain room)) in
-    let p = c in
-    let s = p.args in
-    let xs = s.octets.now in
-    let w = writing_of s.e in
-    let h = half in
+    let w = writing_of c.args.e in
+    let s = c.split_at.ensures in
+    let p = c.put_plain-mid.ensures in
     let q = c.put_each-then-all_plain.ensures in
+    let k = length_as_is w c.split_at.result.0.now (sym c.if-all_plain.ensures) in
+    let to = p.value ∙ ap (λ (n : ℕ). c.args.at + n) (sym k) in
     record {
-      value = omega (arith, length-parts w xs 4, h.0, q.value);
-      out_after = sets-parts w xs 4 s.out.now _ _ s.at _ h.1 h.0 q.out_after;
+      value = omega (arith, split_length w 4 c.args.octets.now c.split_at.result.0.now c.split_at.result.1.now s.front s.back, to, q.value);
+      out_after = split_into w 4 _ _ _ s.front s.back _ _ _ _ _ (p.out_after ∙ into_as_is w c.split_at.result.0.now _ _ (sym c.if-all_plain.ensures)) to q.out_after;
     }
-
-pub put_each-requires-2 : goal.put_each-requires-2
-put_each-requires-2 c = c.requires
-
-pub returns : goal.returns
-returns c = c.put_each-2.ensures

@@ -30,9 +30,9 @@ module _ (writing : Writing) (at_flag : Bool) (head xs tail : List ℕ) where
         append_assoc (escaped writing xs) (escaped writing tail) (writing.flag ∷ []),
       )
 
-  pub length-pieces : length (frame writing at_flag (head ++ (xs ++ tail)))
+  pub length_pieces : length (frame writing at_flag (head ++ (xs ++ tail)))
       ≡ length (opening writing at_flag) + length (escaped writing head) + length (escaped writing xs) + length (escaped writing tail) + 1
-  length-pieces =
+  length_pieces =
       let o = length-append (opening writing at_flag) framed_head in
       let h = length-append (escaped writing head) framed_octets in
       let x = length-append (escaped writing xs) framed_tail in
@@ -44,13 +44,13 @@ module _ (writing : Writing) (at_flag : Bool) (head xs tail : List ℕ) where
   pieces_bound = omega (arith, frame_bound writing at_flag (head ++ (xs ++ tail)), length-append head (xs ++ tail), length-append xs tail)
 
   -- the pieces put down one after another
-  pub sets-pieces : (m m₁ m₂ m₃ m₄ : List ℕ) (i j k n : ℕ)
+  pub sets_pieces : (m m₁ m₂ m₃ m₄ : List ℕ) (i j k n : ℕ)
       → m₁ ≡ sets m 0 (opening writing at_flag) → i ≡ length (opening writing at_flag)
       → m₂ ≡ sets m₁ i (escaped writing head) → j ≡ i + length (escaped writing head)
       → m₃ ≡ sets m₂ j (escaped writing xs) → k ≡ j + length (escaped writing xs)
       → m₄ ≡ sets m₃ k (escaped writing tail) → n ≡ k + length (escaped writing tail)
       → set m₄ n writing.flag ≡ sets m 0 (frame writing at_flag (head ++ (xs ++ tail)))
-  sets-pieces m m₁ m₂ m₃ m₄ i j k n e₁ i₁ e₂ j₁ e₃ k₁ e₄ n₁ =
+  sets_pieces m m₁ m₂ m₃ m₄ i j k n e₁ i₁ e₂ j₁ e₃ k₁ e₄ n₁ =
       let i₀ : i ≡ 0 + length (opening writing at_flag) = omega arith in
       ap₂ (λ (l : List ℕ) (a : ℕ). set l a writing.flag) e₄ n₁
       ∙ sym (sets-++ (escaped writing tail) (writing.flag ∷ []) m₃ k)
