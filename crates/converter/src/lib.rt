@@ -169,12 +169,10 @@ impl Converter {
             return 0;
         }
         if self.to_kiss {
-            let w = kiss_write::write_frame(at_flag, &buffer[..n], out);
-            return w.length;
+            return kiss_write::write_frame(at_flag, &buffer[..n], out).unwrap_or(0);
         }
         let end = n + 1;
-        let w = qaft_write::write_frame(self.level, qaft::SUM, at_flag, &buffer[1..end], out);
-        w.length
+        qaft_write::write_frame(self.level, qaft::SUM, at_flag, &buffer[1..end], out).unwrap_or(0)
     }
 
     // What goes into the next call.

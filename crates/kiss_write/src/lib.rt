@@ -2,28 +2,25 @@
 #![tactic(auto)]
 
 ghost use Rattle.std.specs.Prelude.{◌≡◌};
+ghost use Rattle.kiss.specs.Refusal.{refusal_number};
+ghost use Rattle.qaft_write.specs.Answer.{written_of};
 ghost use Rattle.kiss_write.specs.Write.{write_frame};
 
 use framer::Frame;
-use qaft_write::Written;
+use kiss::Refusal;
 
-fn refused(number: u8) -> Written
-    ensures { result ≡ record { number = number; length = 0 } }
-{
-    Written { number, length: 0 }
-}
-
-// Writes one data frame of port 0 to the front of `out`. `at_flag`: the line stands at a flag already, so that the frame needs none
-// to open it.
-pub fn write_frame(at_flag: bool, payload: &[u8], out: &mut [u8]) -> Written
-    ensures value { result ≡ (write_frame at_flag payload.now out.old).answer }
+// Writes one data frame of port 0 to the front of `out`; how many octets it has. `at_flag`: the line stands at a flag already, so
+// that the frame needs none to open it.
+#[tactic(auto, unfolding(crate::specs::Write::write_frame, crate::specs::Write::refusals, qaft_write::specs::Answer::refusal))]
+pub fn write_frame(at_flag: bool, payload: &[u8], out: &mut [u8]) -> Result<usize, Refusal>
+    ensures value { written_of refusal_number result ≡ (write_frame at_flag payload.now out.old).answer }
     ensures out_after { out.new ≡ (write_frame at_flag payload.now out.old).buffer }
 {
     if payload.len() == 0 {
-        return refused(qaft::NO_DATA);
+        return Err(Refusal::NoData);
     }
     if qaft::MAX_DATA < payload.len() {
-        return refused(qaft::DATA_TOO_LONG);
+        return Err(Refusal::DataTooLong);
     }
     let e = kiss::escapes();
     let kind = [kiss::DATA_TYPE];
@@ -34,10 +31,7 @@ pub fn write_frame(at_flag: bool, payload: &[u8], out: &mut [u8]) -> Written
         tail: &payload[..0],
     };
     let Some(length) = framer::write(e, frame, out) else {
-        return refused(kiss::OUT_TOO_SMALL);
+        return Err(Refusal::OutTooSmall);
     };
-    Written {
-        number: qaft::DONE,
-        length,
-    }
+    Ok(length)
 }

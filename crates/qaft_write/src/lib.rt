@@ -1,12 +1,16 @@
 // QAFT: the frame writer. What it answers and writes: specs/Write; a frame on the line: the crate qaft, specs/Frame.
 #![tactic(auto)]
 
-ghost use Rattle.std.specs.Prelude.{◌≡◌};
+ghost use Rattle.std.specs.Prelude.{◌≡◌, MatchResult};
+ghost use Rattle.qaft.specs.Answers.{done};
+ghost use Rattle.qaft.specs.Refusal.{refusal_number};
+ghost use Rattle.qaft_write.specs.Answer.{written_of};
 ghost use Rattle.qaft_write.specs.Write.{write_frame};
 
 use framer::Frame;
+use qaft::Refusal;
 
-// The writer's answer: a number of document 01, and how many octets of the out buffer were written.
+// A writer's answer in numbers, for C: a number of document 01, and how many octets of the out buffer were written.
 #[repr(C)]
 #[derive(Clone, Copy)]
 pub struct Written {
@@ -14,29 +18,47 @@ pub struct Written {
     pub length: usize,
 }
 
-fn refused(number: u8) -> Written
-    ensures { result ≡ record { number = number; length = 0 } }
-{
-    Written { number, length: 0 }
+impl<E: Into<u8>> From<Result<usize, E>> for Written {
+    ghost from_gives = { λ answer w. MatchResult answer (λ n. w ≡ record { number = done; length = n }) (λ e. E.converts e w.number × (w.length ≡ 0)) };
+
+    fn from(answer: Result<usize, E>) -> Written {
+        match answer {
+            Ok(length) => Written {
+                number: qaft::DONE,
+                length,
+            },
+            Err(refusal) => Written {
+                number: refusal.into(),
+                length: 0,
+            },
+        }
+    }
 }
 
-// Writes one frame with the check of a kind to the front of `out`. `at_flag`: the line stands at a flag already, so that the frame
-// needs none to open it.
-pub fn write_frame(level: u8, check_kind: u8, at_flag: bool, data: &[u8], out: &mut [u8]) -> Written
-    ensures value { result ≡ (write_frame level check_kind at_flag «data».now out.old).answer }
+// Writes one frame with the check of a kind to the front of `out`; how many octets it has. `at_flag`: the line stands at a flag
+// already, so that the frame needs none to open it.
+#[tactic(auto, unfolding(crate::specs::Write::write_frame, crate::specs::Write::refusals, crate::specs::Answer::refusal))]
+pub fn write_frame(
+    level: u8,
+    check_kind: u8,
+    at_flag: bool,
+    data: &[u8],
+    out: &mut [u8],
+) -> Result<usize, Refusal>
+    ensures value { written_of refusal_number result ≡ (write_frame level check_kind at_flag «data».now out.old).answer }
     ensures out_after { out.new ≡ (write_frame level check_kind at_flag «data».now out.old).buffer }
 {
     if qaft::MAX_LEVEL < level {
-        return refused(qaft::BAD_LEVEL);
+        return Err(Refusal::BadLevel);
     }
     if qaft::MAX_KIND < check_kind {
-        return refused(qaft::BAD_KIND);
+        return Err(Refusal::BadKind);
     }
     if data.len() == 0 {
-        return refused(qaft::NO_DATA);
+        return Err(Refusal::NoData);
     }
     if qaft::MAX_DATA < data.len() {
-        return refused(qaft::DATA_TOO_LONG);
+        return Err(Refusal::DataTooLong);
     }
     let e = qaft::escapes(level);
     let check = qaft::check_octets(check_kind, data);
@@ -48,10 +70,7 @@ pub fn write_frame(level: u8, check_kind: u8, at_flag: bool, data: &[u8], out: &
         tail: &check[..size],
     };
     let Some(length) = framer::write(e, frame, out) else {
-        return refused(qaft::OUT_TOO_SMALL);
+        return Err(Refusal::OutTooSmall);
     };
-    Written {
-        number: qaft::DONE,
-        length,
-    }
+    Ok(length)
 }
