@@ -8,19 +8,13 @@ ghost use Rattle.qaft.specs.Limits.{max_level};
 ghost use Rattle.qaft.specs.Answers.{bad_level, done};
 
 use converter::{Converter, Tally};
-use std::io::{Read, Write};
+use std::io::{Cursor, Read, Write};
 
 // So many octets are read, and put together for a write, at a time.
 const CHUNK: usize = 65_536;
 
 // The line of counts has room here: three numbers of 20 digits, and 24 octets beside them.
 const COUNTS: usize = 84;
-
-#[derive(Drop)]
-enum Turn {
-    More(Converter),
-    Done,
-}
 
 // Converts standard input to its end. A level that is none is refused before anything is read or written.
 pub fn convert(rt: &HostRuntime, to_kiss: bool, level: u8) -> u8
@@ -29,82 +23,63 @@ pub fn convert(rt: &HostRuntime, to_kiss: bool, level: u8) -> u8
     if qaft::MAX_LEVEL < level {
         return qaft::BAD_LEVEL;
     }
-    let mut input = [0u8; CHUNK];
-    let mut buffer = [0u8; qaft::MAX_SEGMENT];
-    let mut out = [0u8; CHUNK];
-    let c = Converter::new(to_kiss, level);
-    convert_chunks(rt, c, &mut input, &mut buffer, &mut out);
+    if let Some(tally) = convert_chunks(rt, Converter::new(to_kiss, level)) {
+        say_counts(rt, tally);
+    }
     qaft::DONE
 }
 
-// Chunk after chunk, until there is no more.
-fn convert_chunks(
-    rt: &HostRuntime,
-    c: Converter,
-    input: &mut [u8],
-    buffer: &mut [u8],
-    out: &mut [u8],
-) {
-    let mut s = c;
-    let mut turns = u64::MAX;
-    while 0 < turns {
-        turns -= 1;
-        let turn = convert_next(rt, s, input, buffer, out);
-        let Turn::More(next) = turn else {
-            return;
-        };
-        s = next;
-    }
-}
-
-// The next chunk, if there is one; else the counts. A read that fails ends the capture too, with a line of its own before them.
-fn convert_next(
-    rt: &HostRuntime,
-    c: Converter,
-    input: &mut [u8],
-    buffer: &mut [u8],
-    out: &mut [u8],
-) -> Turn {
-    let mut stdin = rt.stdin();
-    match stdin.read(input) {
-        Ok(0) => {
-            say_counts(rt, c.tally);
-            Turn::Done
-        }
-        Ok(n) => convert_chunk(rt, c, &input[..n], buffer, out),
-        Err(_) => {
-            say(rt, c.to_kiss, b": standard input can't be read\n");
-            say_counts(rt, c.tally);
-            Turn::Done
+// Chunk after chunk, until there is no more; then the counts. A read that fails ends the capture too, with a line of its own before
+// them. A write that fails ends all, without counts: nobody knows how many of these frames were written.
+fn convert_chunks(rt: &HostRuntime, fresh: Converter) -> Option<Tally> {
+    let mut input = [0u8; CHUNK];
+    let mut buffer = [0u8; qaft::MAX_SEGMENT];
+    let mut out = [0u8; CHUNK];
+    let mut converter = fresh;
+    for _ in 0..u64::MAX {
+        match rt.stdin().read(&mut input) {
+            Ok(0) => return Some(converter.tally),
+            Ok(n) => {
+                converter = convert_chunk(rt, converter, &input[..n], &mut buffer, &mut out)?;
+            }
+            Err(_) => {
+                say(rt, converter.to_kiss, b": standard input can't be read\n");
+                return Some(converter.tally);
+            }
         }
     }
+    None
 }
 
-// The frames of one chunk: where they fill the out buffer they are written, and the rest of the chunk goes into the next call.
-// A write that fails ends all, without counts: nobody knows how many of these frames were written.
+// The frames of one chunk: where they fill the out buffer they are written, and the rest of the chunk goes into the next call. None
+// where they can't be written, which is said.
 fn convert_chunk(
     rt: &HostRuntime,
-    c: Converter,
+    before: Converter,
     chunk: &[u8],
     buffer: &mut [u8],
     out: &mut [u8],
-) -> Turn {
-    let mut s = c;
+) -> Option<Converter> {
+    let mut converter = before;
     let mut i = 0;
     while i < chunk.len() {
-        let a = s.convert(&chunk[i..], buffer, out);
-        s = a.converter;
-        i += a.taken;
-        if !write(&mut rt.stdout(), out, a.length) {
-            say(rt, c.to_kiss, b": standard output can't be written\n");
-            return Turn::Done;
+        let converted = converter.convert(&chunk[i..], buffer, out);
+        converter = converted.converter;
+        i += converted.taken;
+        if !write(&mut rt.stdout(), out, converted.length) {
+            say(
+                rt,
+                converter.to_kiss,
+                b": standard output can't be written\n",
+            );
+            return None;
         }
         // a refusal, which these buffers are too long for
-        if a.taken == 0 {
-            return Turn::More(s);
+        if converted.taken == 0 {
+            break;
         }
     }
-    Turn::More(s)
+    Some(converter)
 }
 
 // The first n octets; whether they were written.
@@ -132,20 +107,13 @@ fn say(rt: &HostRuntime, to_kiss: bool, line: &[u8]) {
 }
 
 // The counts on standard error, in one write: frames written, frames of another port or command, other reports.
-fn say_counts(rt: &HostRuntime, t: Tally) {
-    let mut line = [0u8; COUNTS];
-    let n = put_counts(t, &mut line);
-    write(&mut rt.stderr(), &line, n);
-}
-
-fn put_counts(t: Tally, line: &mut [u8]) -> usize {
-    let a = put_count(b"frames ", t.frames, line, 0);
-    let b = put_count(b" skipped ", t.skipped, line, a);
-    let c = put_count(b" other ", t.others, line, b);
-    octets::put(b"\n", line, c)
-}
-
-fn put_count(name: &[u8], n: u64, line: &mut [u8], at: usize) -> usize {
-    let behind = octets::put(name, line, at);
-    text::put_decimal(n, line, behind)
+fn say_counts(rt: &HostRuntime, tally: Tally) {
+    let frames = tally.frames;
+    let skipped = tally.skipped;
+    let others = tally.others;
+    let mut line = Cursor::new([0u8; COUNTS]);
+    if writeln!(line, "frames {frames} skipped {skipped} other {others}").is_ok() {
+        let n = line.position();
+        write(&mut rt.stderr(), line.get_ref(), n as usize);
+    }
 }

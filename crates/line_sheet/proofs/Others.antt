@@ -8,8 +8,7 @@ use Rattle.sheet.specs.Tallies.{fresh_tally}
 use Rattle.sheet.specs.declared.Counts.{Counts}
 use Rattle.sheet.specs.declared.Tally.{Tally}
 use Rattle.sheet_table.proofs.Lines.{tally_others}
-use Rattle.sheet_table.specs.Table.{record_of, sheet_of}
-use Rattle.sheet_table.specs.declared.Sheet.{Sheet}
+use Rattle.sheet_table.specs.Table.{Sheet, record_of, sheet_of}
 
 -- a capture that was counted for the line that was typed
 pub others_kept : (typed : Option ℕ) (n line : ℕ) (ys : List Tally) (c : Counts) (s : Sheet) → typed ≡ Some n → s ≡ sheet_of ys line c → line ≡ n → OthersKept typed ys s.lines

@@ -3,12 +3,11 @@
 // the two arguments of a pair.
 #![tactic(auto)]
 
-ghost use Rattle.std.specs.Prelude.{◌≡◌};
+ghost use Rattle.std.specs.Prelude.{◌≡◌, ◌+◌, ◌<◌, ◌^◌};
 ghost use Rattle.line_sheet.specs.Levels.{level_of};
 ghost use Rattle.line_sheet.specs.Sheet.{OthersKept};
 ghost use Rattle.numerals.specs.Number.{typed_of};
 
-use reading::Capture;
 use sheet::Tally;
 use std::env::{Env, FillError};
 
@@ -24,34 +23,25 @@ const PAIRS: usize = 2;
 // An argument has at most so many octets, as any file's name has.
 const ARGUMENT: usize = 4096;
 
-// The records of all lines.
+// The records of all lines; a struct, since the check covers no local array that calls give anew.
 #[derive(Drop)]
 pub struct Table {
     pub records: [Tally; sheet::LINES],
 }
 
-#[derive(Drop)]
-enum Level {
-    Is(u8),
-    None,
-}
-
 fn main(rt: HostRuntime) {
-    let mut word = [0u8; ARGUMENT];
-    let level = typed_level(&rt, &mut word);
-    let Level::Is(level) = level else {
+    let Some(level) = typed_level(&rt) else {
         say::bad_level(&rt);
         return;
     };
-    let count = arg_count(&rt, &mut word);
-    let mut name = [0u8; ARGUMENT];
-    print::print(&rt, with_pairs(&rt, level, count, &mut word, &mut name));
+    print::print(&rt, with_pairs(&rt, level, arg_count(&rt)));
 }
 
 // How many arguments there are, the program's name among them.
-fn arg_count(rt: &HostRuntime, word: &mut [u8]) -> usize {
+fn arg_count(rt: &HostRuntime) -> usize {
+    let mut word = [0u8; ARGUMENT];
     for at in 0..usize::MAX {
-        if let Err(FillError::NotPresent) = rt.arg(at, word) {
+        if let Err(FillError::NotPresent) = rt.arg(at, &mut word) {
             return at;
         }
     }
@@ -59,33 +49,28 @@ fn arg_count(rt: &HostRuntime, word: &mut [u8]) -> usize {
 }
 
 // The level that the first argument is. One that is missing or longer than the buffer is none.
-fn typed_level(rt: &HostRuntime, word: &mut [u8]) -> Level {
-    match rt.arg(LEVEL, word) {
+fn typed_level(rt: &HostRuntime) -> Option<u8> {
+    let mut word = [0u8; ARGUMENT];
+    match rt.arg(LEVEL, &mut word) {
         Ok(n) => level_of(numerals::parse(&word[..n])),
-        Err(_) => Level::None,
+        Err(_) => None,
     }
 }
 
-fn level_of(typed: Option<usize>) -> Level
+fn level_of(typed: Option<usize>) -> Option<u8>
     ensures { result ≡ level_of typed }
 {
     let Some(n) = typed else {
-        return Level::None;
+        return None;
     };
-    if (qaft::MAX_LEVEL as usize) < n {
-        return Level::None;
+    if usize::from(qaft::MAX_LEVEL) < n {
+        return None;
     }
-    Level::Is(n as u8)
+    Some(n as u8)
 }
 
 // The table after every pair, where there are so many arguments; what is left over behind the pairs is said.
-fn with_pairs(
-    rt: &HostRuntime,
-    level: u8,
-    count: usize,
-    word: &mut [u8],
-    name: &mut [u8],
-) -> Table {
+fn with_pairs(rt: &HostRuntime, level: u8, count: usize) -> Table {
     let records = [Tally::new(); sheet::LINES];
     let mut table = Table { records };
     if count < PAIRS {
@@ -94,42 +79,35 @@ fn with_pairs(
     let pairs = (count - PAIRS) / 2;
     // who waits for several files sees which one is being read
     let shown = 1 < pairs;
-    let mut i = 0;
-    while i < pairs {
-        let at = PAIRS + 2 * i;
-        table = with_pair(rt, level, shown, at, at + 1, word, name, table);
-        i += 1;
+    for i in 0..pairs {
+        table = with_pair(rt, level, shown, PAIRS + 2 * i, table);
     }
     if (count - PAIRS) % 2 == 1 {
-        say_odd(rt, count - 1, word);
+        say_odd(rt, count - 1);
     }
     table
 }
 
 // A line number at the end, without a file.
-fn say_odd(rt: &HostRuntime, at: usize, word: &mut [u8]) {
-    match rt.arg(at, word) {
+fn say_odd(rt: &HostRuntime, at: usize) {
+    let mut word = [0u8; ARGUMENT];
+    match rt.arg(at, &mut word) {
         Ok(n) => say::line(rt, &word[..n], b"a line without a file", b""),
         Err(_) => say::too_long(rt, at),
     }
 }
 
-// The table after the pair of arguments that stand at these indices, a line number and the name of a file.
-fn with_pair(
-    rt: &HostRuntime,
-    level: u8,
-    shown: bool,
-    line_at: usize,
-    file_at: usize,
-    word: &mut [u8],
-    name: &mut [u8],
-    table: Table,
-) -> Table {
-    let Ok(n) = rt.arg(file_at, name) else {
-        say::too_long(rt, file_at);
+// The table after the pair of arguments that begins at this index, a line number and the name of a file.
+fn with_pair(rt: &HostRuntime, level: u8, shown: bool, at: usize, table: Table) -> Table
+    requires { at + 1 < 2 ^ 64 }
+{
+    let mut name = [0u8; ARGUMENT];
+    let Ok(n) = rt.arg(at + 1, &mut name) else {
+        say::too_long(rt, at + 1);
         return table;
     };
-    let Ok(m) = rt.arg(line_at, word) else {
+    let mut word = [0u8; ARGUMENT];
+    let Ok(m) = rt.arg(at, &mut word) else {
         say::line(
             rt,
             &name[..n],
@@ -160,13 +138,14 @@ fn with_file(
     if shown {
         say::line(rt, name, b"reading", b"");
     }
-    let capture = reading::read(rt, level, name);
-    let Capture::Whole(counter) = capture else {
+    let Some(counter) = reading::read(rt, level, name) else {
         return table;
     };
-    let before = table.records;
-    let sheet = sheet_table::tallied(before, line, counter.counts());
-    say::refusal(rt, name, sheet.number, word);
-    let records = sheet.lines;
-    Table { records }
+    match sheet_table::tallied(table.records, line, counter.counts()) {
+        Ok(records) => Table { records },
+        Err(refusal) => {
+            say::refusal(rt, name, refusal, word);
+            table
+        }
+    }
 }

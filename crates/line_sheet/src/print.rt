@@ -12,9 +12,8 @@ const SHEET: usize = 65_536;
 
 // A line for each record, from 0, in one write.
 pub(crate) fn print(rt: &HostRuntime, table: Table) {
-    let records = table.records;
     let mut out = [0u8; SHEET];
-    let n = put_lines(records, &mut out);
+    let n = put_lines(table.records, &mut out);
     let mut stdout = rt.stdout();
     if stdout.write_all(say::front(&out, n)).is_err() {
         say::unwritten(rt);
@@ -27,10 +26,8 @@ fn put_lines(records: [Tally; sheet::LINES], out: &mut [u8]) -> usize
     ensures { Placed out.old 0 (lines_text 0 records) out.new result }
 {
     let mut at = 0;
-    let mut i = 0;
-    while i < sheet::LINES {
-        at = sheet_line::put_line(i, records[i], out, at);
-        i += 1;
+    for (line, &record) in records.iter().enumerate() {
+        at = sheet_line::put_line(line, record, out, at);
     }
     at
 }

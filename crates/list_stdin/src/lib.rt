@@ -13,12 +13,6 @@ use std::io::{Read, Write};
 // So many octets are read, and put together for a write, at a time.
 const CHUNK: usize = 65_536;
 
-#[derive(Drop)]
-enum Turn {
-    More(Lister),
-    Done,
-}
-
 // Lists standard input to its end. A level that is none is refused before anything is read or written.
 pub fn list(rt: &HostRuntime, kiss: bool, level: u8) -> u8
     ensures { result ≡ cond (ltb max_level level) bad_level done }
@@ -26,84 +20,54 @@ pub fn list(rt: &HostRuntime, kiss: bool, level: u8) -> u8
     if qaft::MAX_LEVEL < level {
         return qaft::BAD_LEVEL;
     }
-    let mut input = [0u8; CHUNK];
-    let mut buffer = [0u8; qaft::MAX_SEGMENT];
     let mut out = [0u8; CHUNK];
     let heading = listing_ends::put_heading(kiss, level, &mut out, 0);
     write(rt, &out, heading);
-    let l = list_chunks(
-        rt,
-        Lister::new(kiss, level),
-        &mut input,
-        &mut buffer,
-        &mut out,
-    );
-    let end = l.put_end(&mut out);
+    let lister = list_chunks(rt, Lister::new(kiss, level), &mut out);
+    let end = lister.put_end(&mut out);
     write(rt, &out, end);
     qaft::DONE
 }
 
-// Chunk after chunk, until there is no more.
-fn list_chunks(
-    rt: &HostRuntime,
-    l: Lister,
-    input: &mut [u8],
-    buffer: &mut [u8],
-    out: &mut [u8],
-) -> Lister {
-    let mut s = l;
-    let mut turns = u64::MAX;
-    while 0 < turns {
-        turns -= 1;
-        let turn = list_next(rt, s, input, buffer, out);
-        let Turn::More(next) = turn else {
-            return s;
-        };
-        s = next;
-    }
-    s
-}
-
-// The next chunk, if there is one. A read that fails ends the listing with a line on standard error.
-fn list_next(
-    rt: &HostRuntime,
-    l: Lister,
-    input: &mut [u8],
-    buffer: &mut [u8],
-    out: &mut [u8],
-) -> Turn {
-    let mut stdin = rt.stdin();
-    match stdin.read(input) {
-        Ok(0) => Turn::Done,
-        Ok(n) => Turn::More(list_chunk(rt, l, &input[..n], buffer, out)),
-        Err(_) => {
-            write_all(&mut rt.stderr(), b"listing: standard input can't be read\n");
-            Turn::Done
+// Chunk after chunk, until there is no more. A read that fails ends the listing with a line on standard error.
+fn list_chunks(rt: &HostRuntime, fresh: Lister, out: &mut [u8]) -> Lister {
+    let mut input = [0u8; CHUNK];
+    let mut buffer = [0u8; qaft::MAX_SEGMENT];
+    let mut lister = fresh;
+    for _ in 0..u64::MAX {
+        match rt.stdin().read(&mut input) {
+            Ok(0) => break,
+            Ok(n) => lister = list_chunk(rt, lister, &input[..n], &mut buffer, out),
+            Err(_) => {
+                write_all(&mut rt.stderr(), b"listing: standard input can't be read\n");
+                break;
+            }
         }
     }
+    lister
 }
 
 // The lines of one chunk: where they fill the out buffer they are written, and the rest of the chunk goes into the next call.
 fn list_chunk(
     rt: &HostRuntime,
-    l: Lister,
+    before: Lister,
     chunk: &[u8],
     buffer: &mut [u8],
     out: &mut [u8],
 ) -> Lister {
-    let mut s = l;
+    let mut lister = before;
     let mut i = 0;
     while i < chunk.len() {
-        let a = s.list(&chunk[i..], buffer, out);
-        s = a.lister;
-        i += a.taken;
-        write(rt, out, a.length);
+        let listed = lister.list(&chunk[i..], buffer, out);
+        lister = listed.lister;
+        i += listed.taken;
+        write(rt, out, listed.length);
         // a refusal, which these buffers are too long for
-        if a.taken == 0 {
-            return s;
+        if listed.taken == 0 {
+            break;
         }
     }
-    s
+    lister
 }
 
 // The first n octets, to standard output. What can't be written is lost.

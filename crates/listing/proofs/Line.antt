@@ -1,12 +1,11 @@
 -- Laws of the lines of a listing: their lengths, and the pieces of a line put down one after another. Assumes nothing.
-use Prim.Native.Nat.{ℕ, ◌+◌, ◌*◌, ◌-◌, ◌≤◌, ◌<◌}
+use Prim.Native.Nat.{ℕ, ◌+◌, ◌*◌, ◌≤◌, ◌<◌}
 use mathlib.Core.List.{List, [], ◌++◌}
-use mathlib.Core.Path.{◌≡◌, refl, sym, ap, ap₂, ◌∙◌, subst}
+use mathlib.Core.Path.{◌≡◌, refl, sym, subst}
 use native.Mathlib.Nat.{add-zero}
 use native.Mathlib.Omega.{arith}
-use lib.ListN.{length, take, drop, length-append}
+use lib.ListN.{length, length-append}
 use Rattle.listing.specs.Line.{name, details, report_line, line_room}
-use Rattle.listing.specs.Names.{names, name_start, name_end}
 use Rattle.listing.specs.declared.Entry.{Entry}
 use Rattle.listing.specs.declared.Entry.TheVariants.{Frame, Aborted, Long, Short, BadCheck, BadPair, BadEscape, Skipped}
 use Rattle.octets.specs.Put.{put_into, put_end}
@@ -14,35 +13,6 @@ use Rattle.text.specs.Placed.{Placed}
 use Rattle.text.proofs.Putting.{placed, placed-++, length-placed}
 use Rattle.text.proofs.Text.{length-hex, length-decimal}
 use Rattle.text.specs.Text.{ascii, max_digits, decimal, hex}
-
--- the name of a report is the part of the text of all names
-pub name_part : (p : Entry) → take (name_end p - name_start p) (drop (name_start p) names) ≡ name p
-name_part (Frame n) = refl
-name_part Aborted = refl
-name_part Long = refl
-name_part Short = refl
-name_part BadCheck = refl
-name_part BadPair = refl
-name_part BadEscape = refl
-name_part Skipped = refl
-
--- and so is what is put of it
-pub put_named : (p : Entry) (from end r i : ℕ) (m m' : List ℕ) → from ≡ name_start p → end ≡ name_end p
-    → r ≡ put_end (take (end - from) (drop from names)) m i → m' ≡ put_into (take (end - from) (drop from names)) m i
-    → (r ≡ put_end (name p) m i) × (m' ≡ put_into (name p) m i)
-put_named p from end r i m m' a b e d =
-    let part : take (end - from) (drop from names) ≡ name p = ap₂ (λ (j k : ℕ). take (k - j) (drop j names)) a b ∙ name_part p in
-    (e ∙ ap (λ (t : List ℕ). put_end t m i) part, d ∙ ap (λ (t : List ℕ). put_into t m i) part)
-
-pub name_within : (p : Entry) → (name_start p ≤ name_end p) × (name_end p ≤ 49)
-name_within (Frame n) = (omega arith, omega arith)
-name_within Aborted = (omega arith, omega arith)
-name_within Long = (omega arith, omega arith)
-name_within Short = (omega arith, omega arith)
-name_within BadCheck = (omega arith, omega arith)
-name_within BadPair = (omega arith, omega arith)
-name_within BadEscape = (omega arith, omega arith)
-name_within Skipped = (omega arith, omega arith)
 
 pub length-name : (p : Entry) → length (name p) ≤ 8
 length-name (Frame n) = omega arith

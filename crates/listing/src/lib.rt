@@ -7,7 +7,6 @@ ghost use Rattle.octets.specs.Put.{put_end, put_into};
 ghost use Rattle.text.specs.Placed.{Placed};
 ghost use Rattle.text.specs.Room.{text_into, text_end};
 ghost use Rattle.text.specs.Text.{max_digits};
-ghost use Rattle.listing.specs.Names.{name_start, name_end};
 ghost use Rattle.listing.specs.Line.{name, details, report_line, line_room};
 
 // What a listing calls a report, of either framing; a frame with the number of its data octets.
@@ -58,56 +57,26 @@ fn report_pieces(number: u64, entry: Entry, octets: &[u8], out: &mut [u8], at: u
     octets::put(b"\n", out, c)
 }
 
-// The names of the reports are one text, of which one is put.
 fn put_name(entry: Entry, out: &mut [u8], at: usize) -> usize
     ensures value { result ≡ put_end (name entry) out.old at }
     ensures out_after { out.new ≡ put_into (name entry) out.old at }
 {
-    put_part(
-        b" frame aborted long short bad pair escape skipped",
-        name_start(entry),
-        name_end(entry),
-        out,
-        at,
-    )
+    octets::put(name(entry), out, at)
 }
 
-// The octets from `from` to `end`.
-fn put_part(octets: &[u8], from: usize, end: usize, out: &mut [u8], at: usize) -> usize
-    requires { (from ≤ end) × (end ≤ length octets.now) }
-    ensures value { result ≡ put_end (take (end - from) (drop from octets.now)) out.old at }
-    ensures out_after { out.new ≡ put_into (take (end - from) (drop from octets.now)) out.old at }
-{
-    octets::put(&octets[from..end], out, at)
-}
-
-fn name_start(entry: Entry) -> usize
-    ensures { result ≡ name_start entry }
+// The name of a report, a space before it.
+fn name(entry: Entry) -> &'static [u8]
+    ensures { result.now ≡ name entry }
 {
     match entry {
-        Entry::Frame(_) => 0,
-        Entry::Aborted => 6,
-        Entry::Long => 14,
-        Entry::Short => 19,
-        Entry::BadCheck => 25,
-        Entry::BadPair => 29,
-        Entry::BadEscape => 34,
-        Entry::Skipped => 41,
-    }
-}
-
-fn name_end(entry: Entry) -> usize
-    ensures { result ≡ name_end entry }
-{
-    match entry {
-        Entry::Frame(_) => 6,
-        Entry::Aborted => 14,
-        Entry::Long => 19,
-        Entry::Short => 25,
-        Entry::BadCheck => 29,
-        Entry::BadPair => 34,
-        Entry::BadEscape => 41,
-        Entry::Skipped => 49,
+        Entry::Frame(_) => b" frame",
+        Entry::Aborted => b" aborted",
+        Entry::Long => b" long",
+        Entry::Short => b" short",
+        Entry::BadCheck => b" bad",
+        Entry::BadPair => b" pair",
+        Entry::BadEscape => b" escape",
+        Entry::Skipped => b" skipped",
     }
 }
 

@@ -1,5 +1,6 @@
 -- The line sheet: the numbers given back, "after 6". Cited by the contracts. Assumes nothing.
-use Rattle.std.specs.Prelude.{ℕ}
+use Rattle.std.specs.Prelude.{ℕ, Result, Ok, Err}
+use Rattle.sheet.specs.declared.Refusal.{Refusal}
 
 -- "50 line number over 63 or past the table"
 abbrev pub no_line : ℕ
@@ -8,3 +9,14 @@ no_line = 50
 -- "51 count too large"
 abbrev pub count_too_large : ℕ
 count_too_large = 51
+
+-- a refusal by its number
+abbrev pub number_of : Refusal → ℕ
+number_of (Refusal.Uncounted n) = n
+number_of Refusal.NoLine = no_line
+number_of Refusal.CountTooLarge = count_too_large
+
+-- a call's answer by the number that C programs get: 0 where it is no refusal
+abbrev pub answer_number : {A : Type 0} → Result A Refusal → ℕ
+answer_number (Ok x) = 0
+answer_number (Err e) = number_of e

@@ -3,6 +3,7 @@
 #![tactic(auto)]
 
 ghost use Rattle.std.specs.Prelude.{◌≡◌};
+ghost use Rattle.sheet.specs.Answers.{number_of};
 ghost use Rattle.sheet.specs.Tallies.{fresh_tally};
 
 // Lines of the sheet; a line number is below this.
@@ -49,6 +50,28 @@ pub const TOO_LARGE: u64 = MAX_COUNT + 1;
 pub const NO_LINE: u8 = 50;
 
 pub const COUNT_TOO_LARGE: u8 = 51;
+
+// Why a capture was not counted for a line: by the number of the refusal by which nothing of it was counted, as no line of the sheet
+// or of the table was meant, as a count would pass 32 bits.
+#[derive(Clone, Copy, PartialEq, Eq, Debug)]
+pub enum Refusal {
+    Uncounted(u8),
+    NoLine,
+    CountTooLarge,
+}
+
+impl Refusal {
+    // The number given back to C programs, and said by the program.
+    pub fn number(self) -> u8
+        ensures { result ≡ number_of self }
+    {
+        match self {
+            Refusal::Uncounted(number) => number,
+            Refusal::NoLine => NO_LINE,
+            Refusal::CountTooLarge => COUNT_TOO_LARGE,
+        }
+    }
+}
 
 // What a capture adds: its counts, or the number of the refusal by which nothing was counted (6).
 #[repr(C)]

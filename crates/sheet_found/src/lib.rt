@@ -71,57 +71,34 @@ fn more(yes: bool, n: u64) -> u64
     ensures { result ≡ more yes n }
 {
     if yes {
-        return counter::add(sheet::TOO_LARGE, n, 1);
+        counter::add(sheet::TOO_LARGE, n, 1)
+    } else {
+        n
     }
-    n
 }
 
 fn is_data(kind: Kind) -> bool
     ensures { result ≡ is_data kind }
 {
-    match kind {
-        Kind::Invalid => false,
-        Kind::Reset => false,
-        Kind::ResetAck => false,
-        Kind::Data(_) => true,
-        Kind::Dack(_) => false,
-    }
+    matches!(kind, Kind::Data(_))
 }
 
 fn is_dack(kind: Kind) -> bool
     ensures { result ≡ is_dack kind }
 {
-    match kind {
-        Kind::Invalid => false,
-        Kind::Reset => false,
-        Kind::ResetAck => false,
-        Kind::Data(_) => false,
-        Kind::Dack(_) => true,
-    }
+    matches!(kind, Kind::Dack(_))
 }
 
 // Whether a packet is DATA with this number.
 fn is_numbered(x: u8, kind: Kind) -> bool
     ensures { result ≡ is_numbered x kind }
 {
-    match kind {
-        Kind::Invalid => false,
-        Kind::Reset => false,
-        Kind::ResetAck => false,
-        Kind::Data(y) => y == x,
-        Kind::Dack(_) => false,
-    }
+    matches!(kind, Kind::Data(y) if y == x)
 }
 
 // The number of the last DATA, where it was x before the packet.
 fn number_after(x: u8, kind: Kind) -> u8
     ensures { result ≡ number_after x kind }
 {
-    match kind {
-        Kind::Invalid => x,
-        Kind::Reset => x,
-        Kind::ResetAck => x,
-        Kind::Data(y) => y,
-        Kind::Dack(_) => x,
-    }
+    if let Kind::Data(y) = kind { y } else { x }
 }

@@ -4,15 +4,12 @@ use mathlib.Core.List.{List, [], ◌∷◌, ◌++◌, append_assoc, append-nil}
 use mathlib.Core.Path.{◌≡◌, refl, sym, ap, ap₂, ◌∙◌, subst}
 use native.Mathlib.Numerals.{add-one}
 use native.Mathlib.Omega.{arith}
-use lib.ListN.{length, get_or, take, drop, length-append}
-use lib.Seq.{take-suc, take_all, length-take-le, get_or-take}
+use lib.ListN.{length, get_or, take, length-append}
+use lib.Seq.{take-suc, length-take-le}
 use Rattle.fraction.specs.Fraction.{lowest_of}
 use Rattle.fraction.specs.declared.Fraction.{Fraction}
-use Rattle.octets.proofs.Summing.{sum_end, sum_next}
 use Rattle.octets.specs.Put.{put_into, put_end}
-use Rattle.octets.specs.Sum.{sum}
 use Rattle.sheet.specs.Limits.{counts_long}
-use Rattle.sheet.specs.Places.{reports_end}
 use Rattle.sheet_line.specs.Line.{reports_in, bad_checks_in, share, counts_text, counts_room}
 use Rattle.text.proofs.Putting.{placed, placed-++, room_behind, placed_then}
 use Rattle.text.proofs.Text.{length-decimal}
@@ -36,9 +33,6 @@ counts_text-one c = ap (λ (t : List ℕ). ascii " " ++ t) (append-nil (decimal 
 
 -- a loop that stands at count i
 module _ (cs : List ℕ) (i : ℕ) (long : length cs ≡ counts_long) where
-  pub counts_end : counts_long ≤ i → counts_text (take i cs) ≡ counts_text cs
-  counts_end h = ap counts_text (take_all i cs (omega arith))
-
   module _ (h : i < counts_long) where
     counts_text-next : counts_text (take (i + 1) cs) ≡ counts_text (take i cs) ++ (ascii " " ++ decimal (get_or cs i 0))
     counts_text-next =
@@ -58,15 +52,6 @@ module _ (cs : List ℕ) (i : ℕ) (long : length cs ≡ counts_long) where
         let s = placed (decimal n) m₂ a m₃ b (omega (arith, length-decimal n, q.1)) e₂ d₂ in
         let t : counts_text (take i cs) ++ (ascii " " ++ decimal n) ≡ counts_text (take (i + 1) cs) = ap (λ (k : ℕ). counts_text (take i cs) ++ (ascii " " ++ decimal k)) e ∙ sym counts_text-next in
         subst (λ (u : List ℕ). Placed m at u m₃ b) t (placed-++ _ _ (counts_text (take i cs)) _ _ _ _ _ p (placed-++ _ _ (ascii " ") _ _ _ _ _ q.0 s))
-
-  -- reports that are left to add
-  pub reports_next : i < reports_end → sum (drop i (take reports_end cs)) ≡ get_or cs i 0 + sum (drop (i + 1) (take reports_end cs))
-  reports_next h =
-      sum_next (take reports_end cs) i (omega (arith, length-take-le reports_end cs (omega arith)))
-      ∙ ap (λ (x : ℕ). x + sum (drop (i + 1) (take reports_end cs))) (get_or-take reports_end cs i 0 h)
-
-  pub reports_end_lem : reports_end ≤ i → sum (drop i (take reports_end cs)) ≡ 0
-  reports_end_lem h = sum_end (take reports_end cs) i (omega (arith, length-take-le reports_end cs (omega arith)))
 
 -- the share of what was added
 pub share_of : (cs : List ℕ) (f : Fraction) (bad reports : ℕ) → f ≡ lowest_of bad reports → bad ≡ bad_checks_in cs → reports ≡ reports_in cs → f ≡ share cs

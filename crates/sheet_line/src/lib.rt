@@ -1,7 +1,9 @@
 // A line of the printed line sheet (specs/Line), put into a lent buffer.
 #![tactic(auto)]
 
-ghost use Rattle.std.specs.Prelude.{◌≡◌, ◌+◌, ◌^◌, ◌≤◌, ◌<◌, length};
+ghost use Rattle.std.specs.Prelude.{◌≡◌, ◌+◌, ◌≤◌, length};
+ghost use Rattle.octets.specs.Sum.{sum};
+ghost use Rattle.sheet.specs.Limits.{counts_long};
 ghost use Rattle.text.specs.Placed.{Placed};
 ghost use Rattle.text.specs.Room.{text_into, text_end};
 ghost use Rattle.sheet_line.specs.Line.{share, counts_text, share_text, line_text, counts_room, share_room, line_room};
@@ -44,13 +46,10 @@ fn put_counts(tally: Tally, out: &mut [u8], at: usize) -> usize
     requires { at + counts_room ≤ length out.old }
     ensures { Placed out.old at (counts_text tally.counts) out.new result }
 {
-    let counts = tally.counts;
     let mut to = at;
-    let mut i = 0;
-    while i < sheet::COUNTS {
+    for &count in &tally.counts {
         let a = octets::put(b" ", out, to);
-        to = text::put_decimal(wide(counts[i]), out, a);
-        i += 1;
+        to = text::put_decimal(u64::from(count), out, a);
     }
     to
 }
@@ -71,19 +70,19 @@ fn put_share(share: Fraction, out: &mut [u8], at: usize) -> usize
 fn share(tally: Tally) -> Fraction
     ensures { result ≡ share tally.counts }
 {
-    let counts = tally.counts;
-    let mut reports: u64 = 0;
-    let mut i = sheet::FRAMES;
-    while i < REPORTS_END {
-        reports += wide(counts[i]);
-        i += 1;
-    }
-    let bad = wide(counts[sheet::BAD_CHECKS]);
+    let reports = total(&tally.counts[sheet::FRAMES..REPORTS_END]);
+    let bad = u64::from(tally.counts[sheet::BAD_CHECKS]);
     fraction::lowest(bad, reports)
 }
 
-fn wide(count: u32) -> u64
-    ensures { (result ≡ count) × (result < 2 ^ 32) }
+// The sum of some of a line's counts.
+fn total(counts: &[u32]) -> u64
+    requires { length counts.now ≤ counts_long }
+    ensures { result ≡ sum counts.now }
 {
-    count as u64
+    let mut total: u64 = 0;
+    for &count in counts {
+        total += u64::from(count);
+    }
+    total
 }

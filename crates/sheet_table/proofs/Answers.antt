@@ -1,7 +1,7 @@
 -- From the answer by value to what the table's definition says. Assumes nothing.
 use Prim.Native.Nat.{ℕ, ◌≤◌}
 use mathlib.Core.List.{List}
-use mathlib.Core.Path.{◌≡◌, refl, sym, ap, ◌∙◌}
+use mathlib.Core.Path.{◌≡◌, refl, sym, ap, subst, ◌∙◌}
 use lib.ListN.{length, set}
 use lib.Seq.{set-get_or}
 use Rattle.common.proofs.Refusals.{guarded_both}
@@ -11,7 +11,7 @@ use Rattle.sheet.specs.declared.Counts.{Counts}
 use Rattle.sheet.specs.declared.Tally.{Tally}
 use Rattle.sheet_tally.proofs.Judging.{judged_refused, judged_past}
 use Rattle.sheet_tally.specs.Adding.{refusals, sum_of, judged_of}
-use Rattle.sheet_tally.specs.declared.Added.{Added}
+use Rattle.sheet_tally.specs.Adding.{Added}
 use Rattle.sheet_table.specs.Table.{Outcome, record_of, tally_call}
 
 module _ (ys : List Tally) (i : ℕ) (c : Counts) where
@@ -23,7 +23,7 @@ module _ (ys : List Tally) (i : ℕ) (c : Counts) where
   Puts r o = (r.number ≡ o.number) × (set ys i r.tally ≡ o.table)
 
   -- the record of the answer by value, put in its place
-  pub ends_judged : (r : Added) → r ≡ judged_of (record_of ys i) i (length ys) c → Ends r.number (set ys i r.tally)
+  ends_judged : (r : Added) → r ≡ judged_of (record_of ys i) i (length ys) c → Ends r.number (set ys i r.tally)
   unfolding tally_call judged_of
   ends_judged r e =
       let puts =
@@ -36,6 +36,14 @@ module _ (ys : List Tally) (i : ℕ) (c : Counts) where
   ends_refused n e =
       let ends = ends_judged (record { number = n; tally = record_of ys i }) e in
       (ends.0, sym (set-get_or ys i fresh_tally) ∙ ends.1)
+
+  -- t is the record as the code reads it
+  module _ (t : Tally) (same : t ≡ record_of ys i) where
+    pub ends_ok : (s : Tally) → record { number = 0; tally = s } ≡ judged_of t i (length ys) c → Ends 0 (set ys i s)
+    ends_ok s e = ends_judged (record { number = 0; tally = s }) (e ∙ ap (λ (t : Tally). judged_of t i (length ys) c) same)
+
+    pub ends_err : (n : ℕ) → record { number = n; tally = t } ≡ judged_of t i (length ys) c → Ends n ys
+    ends_err n e = ends_refused n (subst (λ (t : Tally). record { number = n; tally = t } ≡ judged_of t i (length ys) c) same e)
 
   -- past the table nothing is put; the code's test of the number came out so
   pub ends_given : (c.number ≡ 0 → ⊥) → Ends c.number ys

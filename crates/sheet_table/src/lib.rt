@@ -2,44 +2,40 @@
 // line, and no other.
 #![tactic(auto)]
 
-ghost use Rattle.std.specs.Prelude.{◌≡◌};
-ghost use Rattle.sheet_table.specs.Table.{tally_call, sheet_of};
+ghost use Rattle.std.specs.Prelude.{◌≡◌, ◌≢◌, IfErr};
+ghost use Rattle.sheet.specs.Answers.{number_of, answer_number};
+ghost use Rattle.sheet_table.specs.Table.{tally_call, sheet_of, sheet_answer};
 
-use sheet::{Counts, Tally};
+use sheet::{Counts, Refusal, Tally};
 
 // Adds a capture's counts to the record of its line. Past the table there is no record to judge: the refusals that look at none are
 // given here, in their order.
-pub fn tally(table: &mut [Tally], line: usize, counts: Counts) -> u8
-    ensures { (result ≡ (tally_call table.old line counts).number)
-        × (table.new ≡ (tally_call table.old line counts).table) }
+pub fn tally(table: &mut [Tally], line: usize, counts: Counts) -> Result<(), Refusal>
+    ensures value { answer_number result ≡ (tally_call table.old line counts).number }
+    ensures table_after { table.new ≡ (tally_call table.old line counts).table }
+    ensures refused { IfErr result (λ e. number_of e ≢ 0) }
 {
     let lines = table.len();
     if line < lines {
-        let added = sheet_tally::judged(table[line], line, lines, counts);
-        table[line] = added.tally;
-        return added.number;
+        table[line] = sheet_tally::judged(table[line], line, lines, counts)?;
+        return Ok(());
     }
     if counts.number != 0 {
-        return counts.number;
+        return Err(Refusal::Uncounted(counts.number));
     }
-    sheet::NO_LINE
+    Err(Refusal::NoLine)
 }
 
-// The number given back, and the lines after it.
-#[derive(Clone, Copy)]
-pub struct Sheet {
-    pub number: u8,
-    pub lines: [Tally; sheet::LINES],
-}
-
-// The same by value, for a caller that holds all lines of a sheet: a program's main then lends nothing.
-pub fn tallied(lines: [Tally; sheet::LINES], line: usize, counts: Counts) -> Sheet
-    ensures { result ≡ sheet_of lines line counts }
+// The lines of a sheet after a capture, by value, for a caller that holds all of them: a program's main then lends nothing.
+pub fn tallied(
+    lines: [Tally; sheet::LINES],
+    line: usize,
+    counts: Counts,
+) -> Result<[Tally; sheet::LINES], Refusal>
+    ensures answer { sheet_answer lines result ≡ sheet_of lines line counts }
+    ensures refused { IfErr result (λ e. number_of e ≢ 0) }
 {
     let mut table = lines;
-    let number = tally(&mut table, line, counts);
-    Sheet {
-        number,
-        lines: table,
-    }
+    tally(&mut table, line, counts)?;
+    Ok(table)
 }

@@ -10,7 +10,7 @@ use Rattle.sheet.specs.Limits.{lines}
 use Rattle.sheet.specs.declared.Counts.{Counts}
 use Rattle.sheet.specs.declared.Tally.{Tally}
 use Rattle.sheet_tally.specs.Adding.{sums, all_fit, added_of, refusals, judged_of}
-use Rattle.sheet_tally.specs.declared.Added.{Added}
+use Rattle.sheet_tally.specs.Adding.{Added}
 
 module _ (t : Tally) (c : Counts) where
   pub added_refused : all_fit (sums t.counts c.counts) ≡ false → record { number = count_too_large; tally = t } ≡ added_of t c

@@ -1,11 +1,21 @@
 -- The line sheet: what a capture adds to the record of its line. Cited by the contracts, here and of the table. Assumes nothing.
-use Rattle.std.specs.Prelude.{ℕ, ◌+◌, Bool, true, ◌&&◌, not, List, [], ◌∷◌, leb, eqb}
+use Rattle.std.specs.Prelude.{ℕ, ◌+◌, Bool, true, ◌&&◌, not, List, [], ◌∷◌, leb, eqb, Result, Ok, Err}
 use Rattle.common.specs.Refusals.{Refusal, guarded}
-use Rattle.sheet.specs.Answers.{no_line, count_too_large}
+use Rattle.sheet.specs.Answers.{no_line, count_too_large, number_of}
 use Rattle.sheet.specs.Limits.{lines, max_count}
 use Rattle.sheet.specs.declared.Counts.{Counts}
+use Rattle.sheet.specs.declared.Refusal.{Refusal as Refused}
 use Rattle.sheet.specs.declared.Tally.{Tally}
-use Rattle.sheet_tally.specs.declared.Added.{Added}
+
+-- the number given back, and the record after it
+pub record Added : Type 0 where
+  pub number : ℕ
+  pub tally : Tally
+
+-- a call's answer on the record t: the sums, or a refusal, which leaves the record as it was
+abbrev pub answer_of : Tally → Result Tally Refused → Added
+answer_of t (Ok s) = record { number = 0; tally = s }
+answer_of t (Err e) = record { number = number_of e; tally = t }
 
 -- two lists of counts, added count by count
 unfoldable pub sums : List ℕ → List ℕ → List ℕ

@@ -3,7 +3,7 @@ use Rattle.std.specs.Prelude.{ℕ, List, [], ◌∷◌, ◌≡◌, refl}
 use Rattle.sheet.specs.declared.Counts.{Counts}
 use Rattle.sheet.specs.declared.Tally.{Tally}
 use Rattle.sheet_tally.specs.Adding.{sums, all_fit, refusals, judged_of}
-use Rattle.sheet_tally.specs.declared.Added.{Added}
+use Rattle.sheet_tally.specs.Adding.{Added}
 
 abbrev holds : List ℕ → Tally
 holds ns = record { counts = ns }

@@ -1,18 +1,12 @@
 -- `convert_stdin::convert` meets its contract. Assumes nothing.
-use Rattle.std.proofs.Common.{arith, lt-ltb, le-ltb}
-use Rattle.qaft.specs.Limits.{max_level}
+use Rattle.std.proofs.Common.{lt-ltb, le-ltb}
 use Rattle.convert_stdin.proofs.convert.Goals as goal
 
 pub returns-then-level-gt-MAX_LEVEL : goal.returns-then-level-gt-MAX_LEVEL
-returns-then-level-gt-MAX_LEVEL c = simp (lt-ltb max_level c.args.level (omega (arith, c.if-level-gt-MAX_LEVEL.true)))
+returns-then-level-gt-MAX_LEVEL c = simp (lt-ltb _ _ c.if-level-gt-MAX_LEVEL.true)
 
--- NO GOAL TODAY for large-buffer-requires:
--- large-buffer-requires c κs = search rules
---
+pub returns-in-Some : goal.returns-in-Some
+returns-in-Some c = simp (le-ltb _ _ c.if-level-gt-MAX_LEVEL.false)
 
--- NO GOAL TODAY for large-buffer-requires-2:
--- large-buffer-requires-2 c κs = search rules
---
-
-pub returns : goal.returns
-returns c = let t = c in simp (le-ltb max_level t.args.level (omega (arith, t.if-level-gt-MAX_LEVEL.false)))
+pub returns-in_default : goal.returns-in_default
+returns-in_default c = simp (le-ltb _ _ c.if-level-gt-MAX_LEVEL.false)

@@ -6,8 +6,8 @@ use Rattle.line_sheet.proofs.level_of.Goals as goal
 pub returns-in_default : goal.returns-in_default
 returns-in_default c = level_none c.args.typed c.in_default.not-Some
 
-pub returns-then-n : goal.returns-then-n
-returns-then-n c = sym (level_over _ _ c.in-Some.is (omega (arith, c.if-n.true)))
+pub returns-then-from-n : goal.returns-then-from-n
+returns-then-from-n c = sym (level_over _ _ c.in-Some.is (omega (arith, c.from.ensures, c.if-from-n.true)))
 
 pub returns : goal.returns
-returns c = sym (level_is _ _ c.in-Some.is (omega (arith, c.if-n.false)))
+returns c = sym (level_is _ _ c.in-Some.is (omega (arith, c.from.ensures, c.if-from-n.false)))

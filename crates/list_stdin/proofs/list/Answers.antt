@@ -5,13 +5,5 @@ use Rattle.list_stdin.proofs.list.Goals as goal
 pub returns-then-level-gt-MAX_LEVEL : goal.returns-then-level-gt-MAX_LEVEL
 returns-then-level-gt-MAX_LEVEL c = simp (lt-ltb _ _ c.if-level-gt-MAX_LEVEL.true)
 
--- NO GOAL TODAY for large-buffer-requires:
--- large-buffer-requires c κs = search rules
---
-
--- NO GOAL TODAY for large-buffer-requires-2:
--- large-buffer-requires-2 c κs = search rules
---
-
 pub returns : goal.returns
 returns c = simp (le-ltb _ _ c.if-level-gt-MAX_LEVEL.false)

@@ -1,17 +1,11 @@
--- `sheet_line::share`: one report more, and none left.
-use Rattle.std.proofs.Common.{◌≡◌, length, arith, rules}
-use Rattle.sheet.specs.Limits.{counts_long}
-use Rattle.sheet_line.proofs.Counts.{reports_next, reports_end_lem, share_of}
+-- `sheet_line::share`: bad checks, and the counts of reports.
+use Rattle.std.proofs.Common.{sym, ap, ◌∙◌}
+use Rattle.std.proofs.lemmas.List.{drop-take}
+use Rattle.octets.specs.Sum.{sum}
+use Rattle.sheet_line.proofs.Counts.{share_of}
 use Rattle.sheet_line.proofs.share.Goals as goal
-
-pub loop-i-preserved : goal.loop-i-preserved
-loop-i-preserved c =
-    let long : length c.args.tally.counts ≡ counts_long = search rules in
-    let n = reports_next c.args.tally.counts c.loop-i.i long (omega (arith, c.loop-i-test.true)) in
-    omega (arith, n, c.wide-reports.ensures.0, c.wide-reports.ensures.1)
 
 pub returns : goal.returns
 returns c =
-    let long : length c.args.tally.counts ≡ counts_long = search rules in
-    let n = reports_end_lem c.args.tally.counts c.loop-i.i long (omega (arith, c.loop-i-test.false)) in
-    share_of c.args.tally.counts _ _ _ c.lowest.ensures c.wide-bad.ensures.0 (omega (arith, n))
+    let counts = c.args.tally.counts in
+    share_of counts _ _ _ c.lowest.ensures c.from-bad.ensures (c.total-reports.ensures ∙ sym (ap sum (drop-take 5 6 counts)))

@@ -1,5 +1,4 @@
 -- `sheet_tally::add` meets its contract: what is left of the sums decides whether all fit, and gives the record. Assumes nothing.
-use Prim.Native.Nat.{◌-◌}
 use mathlib.Core.Path.{◌≡◌}
 use lib.ListN.{length}
 use lib.Seq.{sets}
@@ -10,6 +9,3 @@ use Rattle.sheet_tally.proofs.add.Given as goal
 
 abbrev pub invariant-loop-i : goal.invariant-loop-i
 invariant-loop-i l = (all_fit (rest l.old l.more l.i) ≡ all_fit (sums l.old l.more)) × (sets l.new l.i (rest l.old l.more l.i) ≡ sets l.old 0 (sums l.old l.more)) × (length l.new ≡ counts_long)
-
-abbrev pub decreases-loop-i : goal.decreases-loop-i
-decreases-loop-i l = counts_long - l.i

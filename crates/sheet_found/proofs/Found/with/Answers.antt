@@ -4,11 +4,5 @@ use Rattle.sheet_found.proofs.Found.with.Goals as goal
 
 pub returns : goal.returns
 returns c =
-    let numbered = c in
-    let dack = numbered in
-    let sent = dack in
-    let kinds = sent in
-    let kind = kinds in
-    with_made _ _ _ _ kind.number-n.ensures kind.kind_of-kind.ensures _ kinds.more.ensures kinds.more-2.ensures
-    kinds.more-3.ensures kinds.more-4.ensures kinds.more-5.ensures kinds.more-6.ensures _ sent.is_data.ensures dack.more-7.ensures _ dack.is_dack.ensures
-    numbered.more-8.ensures _ numbered.is_numbered.ensures c.more-9.ensures c.number_after.ensures
+    with_made _ _ _ _ c.number-n.ensures c.kind_of-kind.ensures _ c.more.ensures c.more-2.ensures c.more-3.ensures c.more-4.ensures c.more-5.ensures c.more-6.ensures
+    _ c.is_data.ensures c.more-7.ensures _ c.is_dack.ensures c.more-8.ensures _ c.is_numbered.ensures c.more-9.ensures c.number_after.ensures
