@@ -21,6 +21,7 @@ pub struct PlainReader {
 }
 
 // The report or refusal, the octets taken, the payload octets shown, the state for the next call.
+// No type parameter for the state, which would serve every framing: include/structs.py reads C's structs from their declarations.
 #[repr(C)]
 #[derive(Clone, Copy)]
 pub struct PlainAnswer {
