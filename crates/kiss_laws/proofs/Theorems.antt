@@ -33,9 +33,9 @@ use Rattle.kiss_read.proofs.Scanning.{commutes}
 use Rattle.kiss_read.specs.Read.{Call, call_of, scan_call, refusal, refusals, read, read_scan}
 use Rattle.kiss_read.specs.State.{fresh, view, place, malformed}
 use Rattle.kiss_read.specs.Step.{action}
-use Rattle.kiss_read.specs.declared.Answer.{Answer}
+use Rattle.kiss_read.specs.Answer.{Answer}
 use Rattle.kiss_read.specs.declared.Reader.{Reader}
-use Rattle.kiss_report.specs.declared.Outcome.TheVariants.{Refused}
+use Rattle.kiss_report.specs.Outcome.Outcome.{Refused}
 use Rattle.kiss_report.specs.declared.Report.{Report}
 use Rattle.kiss_rules.specs.Rules.{rules, framed}
 use Rattle.kiss_write.proofs.Refusals.{done_wrote}

@@ -3,31 +3,21 @@
 use Prim.Native.Nat.{ℕ}
 use mathlib.Core.List.{List}
 use mathlib.Core.Option.{Option, none, some}
-use mathlib.Core.Path.{◌≡◌, refl, ap, ◌∙◌}
-use Rattle.kiss_report.specs.Answer.{number, payload_length}
+use mathlib.Core.Path.{◌≡◌, refl}
 use Rattle.kiss_report.specs.declared.Report.{Report}
 use Rattle.kiss_read.specs.Read.{Call, outcome_of, call_of, scan_call, refusal, read}
 use Rattle.kiss_read.specs.Step.{action}
 use Rattle.line.specs.Scan.{scan}
 use Rattle.kiss_read.proofs.Refusals.{read_ind}
-use Rattle.kiss_read.specs.declared.Answer.{Answer}
 use Rattle.kiss_read.specs.declared.Reader.{Reader}
 use Rattle.kiss_plain.specs.Plain.{reader_of, plain_of, later, answer_of}
 use Rattle.kiss_plain.specs.declared.PlainReader.{PlainReader}
-use Rattle.kiss_plain.specs.declared.PlainAnswer.{PlainAnswer}
 use Rattle.truths.proofs.Truths.{truth_bit}
 
 -- the numbers of a state say that state
 pub reader_plain : (r : Reader) → reader_of (plain_of r) ≡ r
 reader_plain r i =
     record { synced = truth_bit r.synced i; pending = truth_bit r.pending i; count = r.count; type_octet = r.type_octet; bad_escape = truth_bit r.bad_escape i }
-
--- an answer put together in plain numbers
-pub answer_parts : (c : PlainReader) (a b : Answer) (n k : ℕ) (l : PlainReader)
-    → n ≡ number a.outcome → k ≡ payload_length a.outcome → l ≡ later c a.outcome a.reader → a ≡ b
-    → ◌≡◌ {A = PlainAnswer} (record { number = n; taken = a.taken; length = k; reader = l }) (answer_of c b)
-answer_parts c a b n k l e f g h =
-    (λ i. record { number = e i; taken = a.taken; length = f i; reader = g i }) ∙ ap (answer_of c) h
 
 module _ (c : PlainReader) where
   -- the state for the next call says the state of the reader's answer

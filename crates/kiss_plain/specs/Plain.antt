@@ -6,11 +6,11 @@
 use Rattle.std.specs.Prelude.{ℕ, List}
 use Rattle.line.specs.Scan.{Scan}
 use Rattle.kiss_report.specs.Answer.{number, payload_length}
-use Rattle.kiss_report.specs.declared.Outcome.{Outcome}
-use Rattle.kiss_report.specs.declared.Outcome.TheVariants.{Refused, Reported, UsedUp}
+use Rattle.kiss_report.specs.Outcome.{Outcome}
+use Rattle.kiss_report.specs.Outcome.Outcome.{Refused, Reported, UsedUp}
 use Rattle.kiss_report.specs.declared.Report.{Report}
 use Rattle.kiss_read.specs.Read.{read, report_of}
-use Rattle.kiss_read.specs.declared.Answer.{Answer}
+use Rattle.kiss_read.specs.Answer.{Answer}
 use Rattle.kiss_read.specs.declared.Reader.{Reader}
 use Rattle.kiss_plain.specs.declared.PlainReader.{PlainReader}
 use Rattle.kiss_plain.specs.declared.PlainAnswer.{PlainAnswer}

@@ -6,10 +6,9 @@
 ghost use Rattle.std.specs.Prelude.{◌≡◌};
 ghost use Rattle.kiss_read.specs.State.{fresh};
 ghost use Rattle.kiss_read.specs.Read.{read};
-ghost use Rattle.kiss_plain.specs.Plain.{reader_of, plain_of, later, answer_of};
+ghost use Rattle.kiss_plain.specs.Plain.{reader_of, plain_of, answer_of};
 
 use kiss_read::Reader;
-use kiss_report::Outcome;
 
 #[repr(C)]
 #[derive(Clone, Copy)]
@@ -22,6 +21,7 @@ pub struct PlainReader {
 }
 
 // The report or refusal, the octets taken, the payload octets shown, the state for the next call.
+// No type parameter for the state, which would serve every framing: include/structs.py reads C's structs from their declarations.
 #[repr(C)]
 #[derive(Clone, Copy)]
 pub struct PlainAnswer {
@@ -36,7 +36,7 @@ impl PlainReader {
     pub fn fresh() -> Self
         ensures { result ≡ plain_of fresh }
     {
-        plain(Reader::fresh())
+        PlainReader::from(Reader::fresh())
     }
 
     // Reads a chunk up to its first report.
@@ -44,51 +44,50 @@ impl PlainReader {
         ensures value { result ≡ answer_of self (read (reader_of self) chunk.now buffer.old).answer }
         ensures buffer_after { buffer.new ≡ (read (reader_of self) chunk.now buffer.old).buffer }
     {
-        let a = self.reader().read(chunk, buffer);
-        let outcome = a.outcome;
-        let next = a.reader;
-        PlainAnswer {
-            number: outcome.number(),
-            taken: a.taken,
-            length: outcome.payload_length(),
-            reader: self.later(outcome, next),
-        }
-    }
-
-    // The state that the numbers say.
-    fn reader(self) -> Reader
-        ensures { result ≡ reader_of self }
-    {
-        Reader {
-            synced: truths::truth(self.synced),
-            pending: truths::truth(self.pending),
-            count: self.count,
-            type_octet: self.type_octet,
-            bad_escape: truths::truth(self.bad_escape),
-        }
-    }
-
-    // The state given back: after a refusal the very numbers that came, otherwise those of the next state.
-    fn later(self, outcome: Outcome, next: Reader) -> PlainReader
-        ensures { result ≡ later self outcome next }
-    {
-        let numbers = plain(next);
-        match outcome {
-            Outcome::Refused(_) => self,
-            Outcome::Reported(_) => numbers,
-            Outcome::UsedUp => numbers,
+        match Reader::from(self).read(chunk, buffer) {
+            Ok(answer) => PlainAnswer {
+                number: answer.number(),
+                taken: answer.taken,
+                length: answer.length(),
+                reader: PlainReader::from(answer.reader),
+            },
+            // the very numbers that came, not those of their state
+            Err(refusal) => PlainAnswer {
+                number: refusal.number(),
+                taken: 0,
+                length: 0,
+                reader: self,
+            },
         }
     }
 }
 
-fn plain(r: Reader) -> PlainReader
-    ensures { result ≡ plain_of r }
-{
-    PlainReader {
-        synced: truths::bit(r.synced),
-        pending: truths::bit(r.pending),
-        count: r.count,
-        type_octet: r.type_octet,
-        bad_escape: truths::bit(r.bad_escape),
+// The state that the numbers say.
+impl From<PlainReader> for Reader {
+    ghost from_gives = { λ c r. r ≡ reader_of c };
+
+    fn from(c: PlainReader) -> Reader {
+        Reader {
+            synced: truths::truth(c.synced),
+            pending: truths::truth(c.pending),
+            count: c.count,
+            type_octet: c.type_octet,
+            bad_escape: truths::truth(c.bad_escape),
+        }
+    }
+}
+
+// The numbers of a state.
+impl From<Reader> for PlainReader {
+    ghost from_gives = { λ r c. c ≡ plain_of r };
+
+    fn from(r: Reader) -> PlainReader {
+        PlainReader {
+            synced: truths::bit(r.synced),
+            pending: truths::bit(r.pending),
+            count: r.count,
+            type_octet: r.type_octet,
+            bad_escape: truths::bit(r.bad_escape),
+        }
     }
 }

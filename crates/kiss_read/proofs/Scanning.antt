@@ -1,30 +1,27 @@
 -- A call of the reader is the shared loop's, judged: over plain variables, for the returns of `scan`. Assumes nothing.
 use Prim.Native.Nat.{ℕ, ◌≤◌, ◌<◌}
-use mathlib.Core.Bool.{Bool, true, false}
+use mathlib.Core.Bool.{true, false}
 use mathlib.Core.List.{List}
-use mathlib.Core.Path.{◌≡◌, refl, sym, ap, ◌∙◌}
+use mathlib.Core.Path.{◌≡◌, sym, ap, ◌∙◌}
 use native.Mathlib.Omega.{arith}
 use lib.ListN.{length, get_or}
 use Rattle.common.proofs.Each.{each_get_d}
 use Rattle.deframer.proofs.Judged.{judged, scan_judged, check_kept}
 use Rattle.deframer.specs.Scan.{scanned}
-use Rattle.deframer.specs.Scan as deframer
 use Rattle.deframer.specs.declared.Scanned.{Scanned}
 use Rattle.framing.proofs.Steps.{step_into-map}
-use Rattle.framing.specs.Closing.{verdict_on}
 use Rattle.framing.specs.Rules.{State}
 use Rattle.framing.specs.Step.{step}
 use Rattle.kiss.specs.Limits.{max_segment}
 use Rattle.kiss_read.proofs.SharedRule.{rule_rules, partner_octet, first_octet_lem}
 use Rattle.kiss_read.specs.Read.{outcome_of, call_of, scan_call}
-use Rattle.kiss_read.specs.Scanned.{rule, state_of, reader_of, verdict_of}
+use Rattle.kiss_read.specs.Scanned.{rule, state_of, reader_of}
 use Rattle.kiss_read.specs.State.{opened, place}
 use Rattle.kiss_read.specs.Step.{action}
 use Rattle.kiss_read.specs.declared.Reader.{Reader}
-use Rattle.kiss_read.specs.declared.Verdict.TheVariants.{Open, Closed}
-use Rattle.kiss_report.specs.declared.Outcome.TheVariants.{Reported, UsedUp}
+use Rattle.kiss_report.specs.Outcome.Outcome.{Reported, UsedUp}
 use Rattle.kiss_report.specs.declared.Report.{Report}
-use Rattle.kiss_rules.specs.Rules.{rules}
+use Rattle.kiss_rules.specs.Rules.{rules, verdict}
 use Rattle.line.specs.Scan.{advance, store, emit, Scan, scan}
 use Rattle.line.specs.Simulation.{place_action}
 
@@ -43,36 +40,20 @@ module _ (r : Reader) (xs m : List ℕ) (room : max_segment ≤ length m) (u : S
   unfolding scan_call call_of
   buffer_is = sym (ap (λ (v : Scan Reader Report). v.buffer) judged_is)
 
-  -- no segment was closed
-  open_not_closed : verdict_of u.closed u.state ≡ Open → u.closed ≡ false
-  unfolding verdict_of
-  open_not_closed v = by u.closed v
-    where
-      by : (b : Bool) → verdict_of b u.state ≡ Open → b ≡ false
-      by true v = cc
-      by false v = refl
-
   -- what the state that is given back for the next call keeps is an octet
-  pub type_small : ((j : ℕ) → get_or xs j 0 < 256) → r.type_octet < 256 → verdict_of u.closed u.state ≡ Open → u.state.check < 256
+  pub type_small : ((j : ℕ) → get_or xs j 0 < 256) → r.type_octet < 256 → u.closed ≡ false → u.state.check < 256
   type_small octets h v =
-      check_kept rule (state_of r) xs m room u m' e f (λ (a : ℕ). a < 256) (λ (x : ℕ). x < 256) (omega arith) partner_octet first_octet_lem (each_get_d (λ (x : ℕ). x < 256) xs octets) h (open_not_closed v)
+      check_kept rule (state_of r) xs m room u m' e f (λ (a : ℕ). a < 256) (λ (x : ℕ). x < 256) (omega arith) partner_octet first_octet_lem (each_get_d (λ (x : ℕ). x < 256) xs octets) h v
 
-  pub scan_open : verdict_of u.closed u.state ≡ Open → record { outcome = UsedUp; taken = u.taken; reader = reader_of u.state } ≡ (scan_call r xs m).answer
+  -- no segment was closed
+  pub scan_open : u.closed ≡ false → record { outcome = UsedUp; taken = u.taken; reader = reader_of u.state } ≡ (scan_call r xs m).answer
   unfolding scan_call call_of outcome_of
-  scan_open v = sym (ap (λ (v : Scan Reader Report). (call_of v).answer) judged_is ∙ rw (open_not_closed v))
+  scan_open v = sym (ap (λ (v : Scan Reader Report). (call_of v).answer) judged_is ∙ rw v)
 
   -- one was, and its verdict is p
-  closed_verdict : (p : Report) → verdict_of u.closed u.state ≡ Closed p → (u.closed ≡ true) × (verdict_on rules (deframer.view u.state) ≡ p)
-  unfolding verdict_of
-  closed_verdict p v = by u.closed v
-    where
-      by : (b : Bool) → verdict_of b u.state ≡ Closed p → (b ≡ true) × (verdict_on rules (deframer.view u.state) ≡ p)
-      by true v = (refl, cc)
-      by false v = let z : ◌≡◌ {A = ℕ} 0 1 = cc in absurd (omega arith)
-
-  pub scan_closed : (p : Report) → verdict_of u.closed u.state ≡ Closed p
+  pub scan_closed : u.closed ≡ true → (p : Report) → p ≡ verdict u.state.pending u.state.bad u.state.count u.state.check
       → record { outcome = Reported p; taken = u.taken; reader = opened } ≡ (scan_call r xs m).answer
   unfolding scan_call call_of outcome_of
-  scan_closed p v =
-      let w = closed_verdict p v in
-      sym (ap (λ (v : Scan Reader Report). (call_of v).answer) judged_is ∙ rw w.0 (ap (λ (p : Report). record { outcome = Reported p; taken = u.taken; reader = opened }) w.1))
+  scan_closed c p v =
+      ap (λ (p : Report). record { outcome = Reported p; taken = u.taken; reader = opened }) v
+      ∙ sym (ap (λ (v : Scan Reader Report). (call_of v).answer) judged_is ∙ rw c)

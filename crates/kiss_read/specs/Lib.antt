@@ -1,4 +1,5 @@
 pub mod State
 pub mod Step
 pub mod Scanned
+pub mod Answer
 pub mod Read

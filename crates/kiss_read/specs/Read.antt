@@ -7,9 +7,9 @@ use Rattle.kiss.specs.Limits.{max_segment}
 use Rattle.qaft.specs.Answers.{buffer_too_small, bad_state}
 use Rattle.kiss_read.specs.State.{malformed}
 use Rattle.kiss_read.specs.Step.{action}
-use Rattle.kiss_read.specs.declared.Answer.{Answer}
-use Rattle.kiss_report.specs.declared.Outcome.{Outcome}
-use Rattle.kiss_report.specs.declared.Outcome.TheVariants.{Refused, Reported, UsedUp}
+use Rattle.kiss_read.specs.Answer.{Answer}
+use Rattle.kiss_report.specs.Outcome.{Outcome}
+use Rattle.kiss_report.specs.Outcome.Outcome.{Refused, Reported, UsedUp}
 use Rattle.kiss_read.specs.declared.Reader.{Reader}
 use Rattle.kiss_report.specs.declared.Report.{Report}
 

@@ -1,15 +1,12 @@
--- KISS: the rule that the reader hands to the shared loop, its state there, and the verdict on what comes back. Cited by the contracts of the reader's
+-- KISS: the rule that the reader hands to the shared loop, and its state there. Cited by the contracts of the reader's
 -- functions; that the rule's meaning is KISS's rules is a law (proofs/SharedRule). Assumes nothing.
-use Rattle.std.specs.Prelude.{Bool, true, cond}
+use Rattle.std.specs.Prelude.{true}
 use Rattle.deframer.specs.Rule.{first_check}
 use Rattle.deframer.specs.declared.Rule.{Rule}
 use Rattle.deframer.specs.declared.State.{State}
 use Rattle.kiss.specs.Limits.{max_segment}
 use Rattle.kiss.specs.Octets.{escapes}
 use Rattle.kiss_read.specs.declared.Reader.{Reader}
-use Rattle.kiss_read.specs.declared.Verdict.{Verdict}
-use Rattle.kiss_read.specs.declared.Verdict.TheVariants.{Open, Closed}
-use Rattle.kiss_rules.specs.Rules.{verdict}
 
 -- a pair that stands for no octet that is escaped is bad, and stands for its octet as it is; what is kept along the way is the first octet
 abbrev pub rule : Rule
@@ -20,7 +17,3 @@ state_of r = record { synced = r.synced; pending = r.pending; bad = r.bad_escape
 
 abbrev pub reader_of : State → Reader
 reader_of s = record { synced = s.synced; pending = s.pending; count = s.count; type_octet = s.check; bad_escape = s.bad }
-
--- a segment that a flag closed, or one that is still open
-unfoldable pub verdict_of : (closed : Bool) → State → Verdict
-verdict_of closed s = cond closed (Closed (verdict s.pending s.bad s.count s.check)) Open

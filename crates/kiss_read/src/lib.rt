@@ -1,17 +1,20 @@
 // KISS: the chunk reader. The state and its names: specs/State; one octet: specs/Step; a call: specs/Read; the rules of reading:
 // the crate kiss_rules; reports and their numbers: kiss_report. The loop over a chunk is the deframer's, which all framings share; what
-// the reader hands over and how it judges what comes back: specs/Scanned.
+// the reader hands over: specs/Scanned.
 #![tactic(auto)]
 
-ghost use Rattle.std.specs.Prelude.{◌≡◌, not, ◌<◌, ◌≤◌, length};
+ghost use Rattle.std.specs.Prelude.{◌≡◌, not, ◌<◌, ◌≤◌, length, Ok};
 ghost use Rattle.kiss.specs.Limits.{max_segment};
 ghost use Rattle.kiss_rules.specs.Rules.{verdict};
 ghost use Rattle.kiss_read.specs.State.{fresh, opened, malformed};
-ghost use Rattle.kiss_read.specs.Scanned.{rule, state_of, reader_of, verdict_of};
+ghost use Rattle.kiss_read.specs.Scanned.{rule, state_of, reader_of};
+ghost use Rattle.kiss_read.specs.Answer.{answered};
 ghost use Rattle.kiss_read.specs.Read.{scan_call, read};
 
 use deframer::{Rule, State};
-use kiss_report::{Outcome, Report};
+use kiss::Refusal;
+use kiss_report::Report;
+use reports::Answer;
 
 #[repr(C)]
 #[derive(Clone, Copy)]
@@ -21,21 +24,6 @@ pub struct Reader {
     pub count: usize,
     pub type_octet: u8,
     pub bad_escape: bool,
-}
-
-// The verdict on a segment: none while it is open, a report where a flag closed it.
-#[derive(Clone, Copy)]
-pub enum Verdict {
-    Open,
-    Closed(Report),
-}
-
-// The answer to a call: what came of it, the octets taken, and the state for the next call.
-#[derive(Clone, Copy)]
-pub struct Answer {
-    pub outcome: Outcome,
-    pub taken: usize,
-    pub reader: Reader,
 }
 
 impl Reader {
@@ -53,74 +41,68 @@ impl Reader {
     }
 
     // Reads a chunk up to its first report. The caller hands on the rest of the chunk, from the octets taken on, to the
-    // next call, with the state that the answer gives back and the same buffer.
-    pub fn read(self, chunk: &[u8], buffer: &mut [u8]) -> Answer
-        ensures value { result ≡ (read self chunk.now buffer.old).answer }
+    // next call, with the state that the answer gives back and the same buffer. A refusal changes nothing lent, and the caller still
+    // has the state.
+    #[tactic(auto, unfolding(crate::specs::Read::read, crate::specs::Read::refusals, crate::specs::Read::refusal))]
+    pub fn read(self, chunk: &[u8], buffer: &mut [u8]) -> Result<Answer<Report, Self>, Refusal>
+        ensures value { answered self result ≡ (read self chunk.now buffer.old).answer }
         ensures buffer_after { buffer.new ≡ (read self chunk.now buffer.old).buffer }
     {
         if buffer.len() < kiss::MAX_SEGMENT {
-            return self.refused(qaft::BUFFER_TOO_SMALL);
+            return Err(Refusal::BufferTooSmall);
         }
-        if self.well_formed() {
-            return self.scan(chunk, buffer);
+        if !self.well_formed() {
+            return Err(Refusal::BadState);
         }
-        self.refused(qaft::BAD_STATE)
-    }
-
-    fn refused(self, number: u8) -> Answer
-        ensures { result ≡ record { outcome = Outcome.Refused number; taken = 0; reader = self } }
-    {
-        Answer {
-            outcome: Outcome::Refused(number),
-            taken: 0,
-            reader: self,
-        }
+        Ok(self.scan(chunk, buffer))
     }
 
     // Whether the state is well formed.
     fn well_formed(self) -> bool
         ensures { result ≡ not (malformed self) }
     {
-        rule().well_formed(self.state())
+        rule().well_formed(State::from(self))
     }
 
     // The chunk's octets up to the first report.
-    fn scan(self, chunk: &[u8], buffer: &mut [u8]) -> Answer
+    fn scan(self, chunk: &[u8], buffer: &mut [u8]) -> Answer<Report, Self>
         requires { max_segment ≤ length buffer.old }
-        ensures value { result ≡ (scan_call self chunk.now buffer.old).answer }
+        ensures value { answered self (Ok result) ≡ (scan_call self chunk.now buffer.old).answer }
         ensures buffer_after { buffer.new ≡ (scan_call self chunk.now buffer.old).buffer }
     {
-        let scanned = deframer::scan(rule(), self.state(), chunk, buffer);
+        let scanned = deframer::scan(rule(), State::from(self), chunk, buffer);
         let s = scanned.state;
-        let Verdict::Closed(report) = judge(scanned.closed, s) else {
+        if scanned.closed {
             return Answer {
-                outcome: Outcome::UsedUp,
+                report: Some(report_on(s)),
                 taken: scanned.taken,
-                reader: reader_of(s),
+                reader: opened(),
             };
-        };
-        Answer {
-            outcome: Outcome::Reported(report),
-            taken: scanned.taken,
-            reader: opened(),
         }
-    }
-
-    // The state as the deframer has it.
-    fn state(self) -> State
-        ensures { result ≡ state_of self }
-    {
-        State {
-            synced: self.synced,
-            pending: self.pending,
-            bad: self.bad_escape,
-            count: self.count,
-            check: self.type_octet as u16,
+        Answer {
+            report: None,
+            taken: scanned.taken,
+            reader: reader_of(s),
         }
     }
 }
 
-// A state of the deframer. What it keeps along the way is the first octet.
+// The state as the deframer has it.
+impl From<Reader> for State {
+    ghost from_gives = { λ reader s. s ≡ state_of reader };
+
+    fn from(reader: Reader) -> State {
+        State {
+            synced: reader.synced,
+            pending: reader.pending,
+            bad: reader.bad_escape,
+            count: reader.count,
+            check: u16::from(reader.type_octet),
+        }
+    }
+}
+
+// A state of the deframer. What it keeps along the way is the first octet; that it is one is asked here, so this is no From.
 fn reader_of(s: State) -> Reader
     requires { s.check < 256 }
     ensures { result ≡ reader_of s }
@@ -140,10 +122,7 @@ fn opened() -> Reader
 {
     Reader {
         synced: true,
-        pending: false,
-        count: 0,
-        type_octet: 0,
-        bad_escape: false,
+        ..Reader::fresh()
     }
 }
 
@@ -158,17 +137,6 @@ pub fn rule() -> Rule
         cap: kiss::MAX_SEGMENT as u16,
         check: deframer::FIRST,
     }
-}
-
-// The verdict on the segment in which a call ended.
-#[tactic(auto, unfolding(crate::specs::Scanned::verdict_of))]
-fn judge(closed: bool, s: State) -> Verdict
-    ensures { result ≡ verdict_of closed s }
-{
-    if closed {
-        return Verdict::Closed(report_on(s));
-    }
-    Verdict::Open
 }
 
 // What a closed segment is reported as, by the state in which the flag found it; first that applies.

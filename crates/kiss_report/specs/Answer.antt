@@ -1,8 +1,8 @@
 -- KISS: the number and the values that each case of the reader's answer stands for. Cited by contracts and theorems. Assumes nothing.
 use Rattle.std.specs.Prelude.{ℕ}
 use Rattle.kiss.specs.Answers.{bad_escape, short, long, skipped}
-use Rattle.kiss_report.specs.declared.Outcome.{Outcome}
-use Rattle.kiss_report.specs.declared.Outcome.TheVariants.{Refused, Reported, UsedUp}
+use Rattle.kiss_report.specs.Outcome.{Outcome}
+use Rattle.kiss_report.specs.Outcome.Outcome.{Refused, Reported, UsedUp}
 use Rattle.kiss_report.specs.declared.Report.{Report}
 use Rattle.kiss_report.specs.declared.Report.TheVariants.{Frame, BadEscape, Short, Long, Skipped}
 use Rattle.qaft.specs.Answers.{frame, used_up}

@@ -50,10 +50,10 @@ use Rattle.qaft_read.proofs.Scanning.{commutes}
 use Rattle.qaft_read.specs.Read.{Call, call_of, scan_call, refusal, refusals, read, read_scan}
 use Rattle.qaft_read.specs.State.{fresh, view, place, malformed}
 use Rattle.qaft_read.specs.Step.{action}
-use Rattle.qaft_read.specs.declared.Answer.{Answer}
+use Rattle.qaft_read.specs.Answer.{Answer}
 use Rattle.qaft_read.specs.declared.Reader.{Reader}
 use Rattle.qaft_rules.specs.Rules.{rules, framed}
-use Rattle.qaft_report.specs.declared.Outcome.TheVariants.{Refused}
+use Rattle.qaft_report.specs.Outcome.Outcome.{Refused}
 use Rattle.qaft_report.specs.declared.Report.{Report}
 use Rattle.qaft_report.specs.declared.Report.TheVariants.{BadCheck}
 use Rattle.qaft_write.proofs.Refusals.{done_level, done_kind, done_wrote}

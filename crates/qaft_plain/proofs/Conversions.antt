@@ -3,31 +3,21 @@
 use Prim.Native.Nat.{ℕ}
 use mathlib.Core.List.{List}
 use mathlib.Core.Option.{Option, none, some}
-use mathlib.Core.Path.{◌≡◌, refl, ap, ◌∙◌}
-use Rattle.qaft_report.specs.Answer.{number, data_length}
+use mathlib.Core.Path.{◌≡◌, refl}
 use Rattle.qaft_report.specs.declared.Report.{Report}
 use Rattle.qaft_read.specs.Read.{Call, outcome_of, call_of, scan_call, refusal, read}
 use Rattle.qaft_read.specs.Step.{action}
 use Rattle.line.specs.Scan.{scan}
 use Rattle.qaft_read.proofs.Refusals.{read_ind}
-use Rattle.qaft_read.specs.declared.Answer.{Answer}
 use Rattle.qaft_read.specs.declared.Reader.{Reader}
 use Rattle.qaft_plain.specs.Plain.{reader_of, plain_of, later, answer_of}
 use Rattle.qaft_plain.specs.declared.PlainReader.{PlainReader}
-use Rattle.qaft_plain.specs.declared.PlainAnswer.{PlainAnswer}
 use Rattle.truths.proofs.Truths.{truth_bit}
 
 -- the numbers of a state say that state
 pub reader_plain : (r : Reader) → reader_of (plain_of r) ≡ r
 reader_plain r i =
     record { level = r.level; check_kind = r.check_kind; synced = truth_bit r.synced i; pending = truth_bit r.pending i; count = r.count; check = r.check; bad_pair = truth_bit r.bad_pair i }
-
--- an answer put together in plain numbers
-pub answer_parts : (c : PlainReader) (a b : Answer) (n k : ℕ) (l : PlainReader)
-    → n ≡ number a.outcome → k ≡ data_length a.outcome → l ≡ later c a.outcome a.reader → a ≡ b
-    → ◌≡◌ {A = PlainAnswer} (record { number = n; taken = a.taken; length = k; reader = l }) (answer_of c b)
-answer_parts c a b n k l e f g h =
-    (λ i. record { number = e i; taken = a.taken; length = f i; reader = g i }) ∙ ap (answer_of c) h
 
 module _ (c : PlainReader) where
   -- the state for the next call says the state of the reader's answer

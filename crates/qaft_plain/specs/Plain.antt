@@ -6,11 +6,11 @@
 use Rattle.std.specs.Prelude.{ℕ, List}
 use Rattle.line.specs.Scan.{Scan}
 use Rattle.qaft_report.specs.Answer.{number, data_length}
-use Rattle.qaft_report.specs.declared.Outcome.{Outcome}
-use Rattle.qaft_report.specs.declared.Outcome.TheVariants.{Refused, Reported, UsedUp}
+use Rattle.qaft_report.specs.Outcome.{Outcome}
+use Rattle.qaft_report.specs.Outcome.Outcome.{Refused, Reported, UsedUp}
 use Rattle.qaft_report.specs.declared.Report.{Report}
 use Rattle.qaft_read.specs.Read.{read, report_of}
-use Rattle.qaft_read.specs.declared.Answer.{Answer}
+use Rattle.qaft_read.specs.Answer.{Answer}
 use Rattle.qaft_read.specs.declared.Reader.{Reader}
 use Rattle.qaft_plain.specs.declared.PlainReader.{PlainReader}
 use Rattle.qaft_plain.specs.declared.PlainAnswer.{PlainAnswer}

@@ -6,10 +6,9 @@
 ghost use Rattle.std.specs.Prelude.{◌≡◌};
 ghost use Rattle.qaft_read.specs.State.{fresh};
 ghost use Rattle.qaft_read.specs.Read.{read};
-ghost use Rattle.qaft_plain.specs.Plain.{reader_of, plain_of, later, answer_of};
+ghost use Rattle.qaft_plain.specs.Plain.{reader_of, plain_of, answer_of};
 
 use qaft_read::Reader;
-use qaft_report::Outcome;
 
 // In this order the state has sixteen octets, which C hands over in registers.
 #[repr(C)]
@@ -25,6 +24,7 @@ pub struct PlainReader {
 }
 
 // The report or refusal, the octets taken, the data octets shown, the state for the next call.
+// No type parameter for the state, which would serve every framing: include/structs.py reads C's structs from their declarations.
 #[repr(C)]
 #[derive(Clone, Copy)]
 pub struct PlainAnswer {
@@ -39,7 +39,7 @@ impl PlainReader {
     pub fn fresh(level: u8, check_kind: u8) -> Self
         ensures { result ≡ plain_of (fresh level check_kind) }
     {
-        plain(Reader::fresh(level, check_kind))
+        PlainReader::from(Reader::fresh(level, check_kind))
     }
 
     // Reads a chunk up to its first report.
@@ -47,29 +47,20 @@ impl PlainReader {
         ensures value { result ≡ answer_of self (read (reader_of self) chunk.now buffer.old).answer }
         ensures buffer_after { buffer.new ≡ (read (reader_of self) chunk.now buffer.old).buffer }
     {
-        let a = self.reader().read(chunk, buffer);
-        let outcome = a.outcome;
-        let next = a.reader;
-        PlainAnswer {
-            number: outcome.number(),
-            taken: a.taken,
-            length: outcome.data_length(),
-            reader: self.later(outcome, next),
-        }
-    }
-
-    // The state that the numbers say.
-    fn reader(self) -> Reader
-        ensures { result ≡ reader_of self }
-    {
-        Reader {
-            level: self.level,
-            check_kind: self.check_kind,
-            synced: truths::truth(self.synced),
-            pending: truths::truth(self.pending),
-            count: self.count,
-            check: self.check,
-            bad_pair: truths::truth(self.bad_pair),
+        match Reader::from(self).read(chunk, buffer) {
+            Ok(answer) => PlainAnswer {
+                number: answer.number(),
+                taken: answer.taken,
+                length: answer.length(),
+                reader: PlainReader::from(answer.reader),
+            },
+            // the very numbers that came, not those of their state
+            Err(refusal) => PlainAnswer {
+                number: refusal.number(),
+                taken: 0,
+                length: 0,
+                reader: self.by_fields(),
+            },
         }
     }
 
@@ -87,30 +78,38 @@ impl PlainReader {
             count: self.count,
         }
     }
+}
 
-    // The state given back: after a refusal the very numbers that came, otherwise those of the next state.
-    fn later(self, outcome: Outcome, next: Reader) -> PlainReader
-        ensures { result ≡ later self outcome next }
-    {
-        let numbers = plain(next);
-        match outcome {
-            Outcome::Refused(_) => self.by_fields(),
-            Outcome::Reported(_) => numbers,
-            Outcome::UsedUp => numbers,
+// The state that the numbers say.
+impl From<PlainReader> for Reader {
+    ghost from_gives = { λ c r. r ≡ reader_of c };
+
+    fn from(c: PlainReader) -> Reader {
+        Reader {
+            level: c.level,
+            check_kind: c.check_kind,
+            synced: truths::truth(c.synced),
+            pending: truths::truth(c.pending),
+            count: c.count,
+            check: c.check,
+            bad_pair: truths::truth(c.bad_pair),
         }
     }
 }
 
-fn plain(r: Reader) -> PlainReader
-    ensures { result ≡ plain_of r }
-{
-    PlainReader {
-        level: r.level,
-        check_kind: r.check_kind,
-        synced: truths::bit(r.synced),
-        pending: truths::bit(r.pending),
-        count: r.count,
-        check: r.check,
-        bad_pair: truths::bit(r.bad_pair),
+// The numbers of a state.
+impl From<Reader> for PlainReader {
+    ghost from_gives = { λ r c. c ≡ plain_of r };
+
+    fn from(r: Reader) -> PlainReader {
+        PlainReader {
+            level: r.level,
+            check_kind: r.check_kind,
+            synced: truths::bit(r.synced),
+            pending: truths::bit(r.pending),
+            count: r.count,
+            check: r.check,
+            bad_pair: truths::bit(r.bad_pair),
+        }
     }
 }

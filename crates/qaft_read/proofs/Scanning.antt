@@ -1,16 +1,13 @@
 -- A call of the reader is the shared loop's, judged: over plain variables, for the returns of `scan`. Assumes nothing.
 use Prim.Native.Nat.{ℕ, ◌≤◌}
-use mathlib.Core.Bool.{Bool, true, false}
+use mathlib.Core.Bool.{true, false}
 use mathlib.Core.List.{List}
-use mathlib.Core.Path.{◌≡◌, refl, sym, ap, ◌∙◌}
-use native.Mathlib.Omega.{arith}
+use mathlib.Core.Path.{◌≡◌, sym, ap, ◌∙◌}
 use lib.ListN.{length}
 use Rattle.deframer.proofs.Judged.{judged, scan_judged}
 use Rattle.deframer.specs.Scan.{scanned}
-use Rattle.deframer.specs.Scan as deframer
 use Rattle.deframer.specs.declared.Scanned.{Scanned}
 use Rattle.framing.proofs.Steps.{step_into-map}
-use Rattle.framing.specs.Closing.{verdict_on}
 use Rattle.framing.specs.Rules.{State}
 use Rattle.framing.specs.Step.{step}
 use Rattle.line.specs.Scan.{advance, store, emit, Scan, scan}
@@ -18,15 +15,14 @@ use Rattle.line.specs.Simulation.{place_action}
 use Rattle.qaft.specs.Limits.{max_segment_of}
 use Rattle.qaft_read.proofs.SharedRule.{rule_rules}
 use Rattle.qaft_read.specs.Read.{outcome_of, call_of, scan_call}
-use Rattle.qaft_read.specs.Scanned.{rule, state_of, reader_at, verdict_of}
+use Rattle.qaft_read.specs.Scanned.{rule, state_of, reader_at}
 use Rattle.qaft_read.specs.State.{place}
 use Rattle.qaft_read.specs.State as state
 use Rattle.qaft_read.specs.Step.{action}
 use Rattle.qaft_read.specs.declared.Reader.{Reader}
-use Rattle.qaft_read.specs.declared.Verdict.TheVariants.{Open, Closed}
-use Rattle.qaft_report.specs.declared.Outcome.TheVariants.{Reported, UsedUp}
+use Rattle.qaft_report.specs.Outcome.Outcome.{Reported, UsedUp}
 use Rattle.qaft_report.specs.declared.Report.{Report}
-use Rattle.qaft_rules.specs.Rules.{rules}
+use Rattle.qaft_rules.specs.Rules.{rules, verdict}
 
 -- the reader's step is framing's
 pub commutes : (level kind : ℕ) (s : State ℕ) (x : ℕ) → action (place level kind s) x ≡ place_action (place level kind) (step (rules level kind) s x)
@@ -50,30 +46,14 @@ module _ (r : Reader) (xs m : List ℕ) (room : max_segment_of r.check_kind ≤ 
   buffer_is = sym (ap (λ (v : Scan Reader Report). v.buffer) judged_is)
 
   -- no segment was closed
-  open_not_closed : verdict_of k u.closed u.state ≡ Open → u.closed ≡ false
-  unfolding verdict_of
-  open_not_closed v = by u.closed v
-    where
-      by : (b : Bool) → verdict_of k b u.state ≡ Open → b ≡ false
-      by true v = cc
-      by false v = refl
-
-  pub scan_open : verdict_of k u.closed u.state ≡ Open → record { outcome = UsedUp; taken = u.taken; reader = reader_at l k u.state } ≡ (scan_call r xs m).answer
+  pub scan_open : u.closed ≡ false → record { outcome = UsedUp; taken = u.taken; reader = reader_at l k u.state } ≡ (scan_call r xs m).answer
   unfolding scan_call call_of outcome_of
-  scan_open v = sym (ap (λ (v : Scan Reader Report). (call_of v).answer) judged_is ∙ rw (open_not_closed v))
+  scan_open e = sym (ap (λ (v : Scan Reader Report). (call_of v).answer) judged_is ∙ rw e)
 
   -- one was, and its verdict is p
-  closed_verdict : (p : Report) → verdict_of k u.closed u.state ≡ Closed p → (u.closed ≡ true) × (verdict_on (rules l k) (deframer.view u.state) ≡ p)
-  unfolding verdict_of
-  closed_verdict p v = by u.closed v
-    where
-      by : (b : Bool) → verdict_of k b u.state ≡ Closed p → (b ≡ true) × (verdict_on (rules l k) (deframer.view u.state) ≡ p)
-      by true v = (refl, cc)
-      by false v = let z : ◌≡◌ {A = ℕ} 0 1 = cc in absurd (omega arith)
-
-  pub scan_closed : (p : Report) → verdict_of k u.closed u.state ≡ Closed p
+  pub scan_closed : u.closed ≡ true → (p : Report) → p ≡ verdict k u.state.pending u.state.bad u.state.count u.state.check
       → record { outcome = Reported p; taken = u.taken; reader = state.opened r } ≡ (scan_call r xs m).answer
   unfolding scan_call call_of outcome_of
-  scan_closed p v =
-      let w = closed_verdict p v in
-      sym (ap (λ (v : Scan Reader Report). (call_of v).answer) judged_is ∙ rw w.0 (ap (λ (p : Report). record { outcome = Reported p; taken = u.taken; reader = state.opened r }) w.1))
+  scan_closed e p v =
+      ap (λ (p : Report). record { outcome = Reported p; taken = u.taken; reader = state.opened r }) v
+      ∙ sym (ap (λ (v : Scan Reader Report). (call_of v).answer) judged_is ∙ rw e)

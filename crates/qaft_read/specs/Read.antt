@@ -7,9 +7,9 @@ use Rattle.qaft.specs.Answers.{buffer_too_small, bad_state, bad_level, bad_kind}
 use Rattle.qaft.specs.Limits.{max_level, max_kind, max_segment_of}
 use Rattle.qaft_read.specs.State.{malformed}
 use Rattle.qaft_read.specs.Step.{action}
-use Rattle.qaft_read.specs.declared.Answer.{Answer}
-use Rattle.qaft_report.specs.declared.Outcome.{Outcome}
-use Rattle.qaft_report.specs.declared.Outcome.TheVariants.{Refused, Reported, UsedUp}
+use Rattle.qaft_read.specs.Answer.{Answer}
+use Rattle.qaft_report.specs.Outcome.{Outcome}
+use Rattle.qaft_report.specs.Outcome.Outcome.{Refused, Reported, UsedUp}
 use Rattle.qaft_read.specs.declared.Reader.{Reader}
 use Rattle.qaft_report.specs.declared.Report.{Report}
 

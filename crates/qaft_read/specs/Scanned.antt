@@ -1,15 +1,12 @@
--- QAFT: the rule that the reader hands to the shared loop, its state there, and the verdict on what comes back. Cited by the contracts of the reader's
+-- QAFT: the rule that the reader hands to the shared loop, and its state there. Cited by the contracts of the reader's
 -- functions; that the rule's meaning is QAFT's rules is a law (proofs/SharedRule). Assumes nothing.
-use Rattle.std.specs.Prelude.{ℕ, Bool, true, cond}
+use Rattle.std.specs.Prelude.{ℕ, true}
 use Rattle.deframer.specs.Rule.{sum_check, register_check}
 use Rattle.deframer.specs.declared.Rule.{Rule}
 use Rattle.deframer.specs.declared.State.{State}
 use Rattle.qaft.specs.Escape.{mask, escapes_of}
 use Rattle.qaft.specs.Limits.{by_kind, max_segment_of}
 use Rattle.qaft_read.specs.declared.Reader.{Reader}
-use Rattle.qaft_read.specs.declared.Verdict.{Verdict}
-use Rattle.qaft_read.specs.declared.Verdict.TheVariants.{Open, Closed}
-use Rattle.qaft_rules.specs.Rules.{verdict}
 
 -- the octets that the level escapes have a meaning where they stand raw: flag, escape, and at level 1 flow control; a pair stands for its octet xor 20,
 -- and is bad where that is none of them; the check runs along by its kind
@@ -24,7 +21,3 @@ state_of r = record { synced = r.synced; pending = r.pending; bad = r.bad_pair; 
 
 abbrev pub reader_at : (level kind : ℕ) → State → Reader
 reader_at level kind s = record { level = level; check_kind = kind; synced = s.synced; pending = s.pending; count = s.count; check = s.check; bad_pair = s.bad }
-
--- a segment that a flag closed, or one that is still open
-unfoldable pub verdict_of : (kind : ℕ) (closed : Bool) → State → Verdict
-verdict_of kind closed s = cond closed (Closed (verdict kind s.pending s.bad s.count s.check)) Open

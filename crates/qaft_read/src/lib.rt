@@ -1,18 +1,21 @@
 // QAFT: the chunk reader. The state and its names: specs/State; one octet: specs/Step; a call: specs/Read; the rules of reading:
 // the crate qaft_rules; reports and their numbers: qaft_report. The loop over a chunk is the deframer's, which all framings share;
-// what the reader hands over and how it judges what comes back: specs/Scanned.
+// what the reader hands over: specs/Scanned.
 #![tactic(auto)]
 
-ghost use Rattle.std.specs.Prelude.{◌≡◌, not, ◌≤◌, length};
+ghost use Rattle.std.specs.Prelude.{◌≡◌, not, ◌≤◌, length, Ok};
 ghost use Rattle.qaft.specs.Check.{check_by};
 ghost use Rattle.qaft.specs.Limits.{max_segment_of};
 ghost use Rattle.qaft_rules.specs.Rules.{verdict};
 ghost use Rattle.qaft_read.specs.State.{fresh, opened, malformed};
-ghost use Rattle.qaft_read.specs.Scanned.{running_check, rule, state_of, reader_at, verdict_of};
+ghost use Rattle.qaft_read.specs.Scanned.{running_check, rule, state_of, reader_at};
+ghost use Rattle.qaft_read.specs.Answer.{answered};
 ghost use Rattle.qaft_read.specs.Read.{scan_call, read};
 
 use deframer::{Rule, State};
-use qaft_report::{Outcome, Report};
+use qaft::Refusal;
+use qaft_report::Report;
+use reports::Answer;
 
 #[repr(C)]
 #[derive(Clone, Copy)]
@@ -24,21 +27,6 @@ pub struct Reader {
     pub bad_pair: bool,
     pub check: u16,
     pub count: usize,
-}
-
-// The verdict on a segment: none while it is open, a report where a flag closed it.
-#[derive(Clone, Copy)]
-pub enum Verdict {
-    Open,
-    Closed(Report),
-}
-
-// The answer to a call: what came of it, the octets taken, and the state for the next call.
-#[derive(Clone, Copy)]
-pub struct Answer {
-    pub outcome: Outcome,
-    pub taken: usize,
-    pub reader: Reader,
 }
 
 impl Reader {
@@ -58,106 +46,94 @@ impl Reader {
     }
 
     // Reads a chunk up to its first report. The caller hands on the rest of the chunk, from the octets taken on, to the
-    // next call, with the state that the answer gives back and the same buffer.
-    pub fn read(self, chunk: &[u8], buffer: &mut [u8]) -> Answer
-        ensures value { result ≡ (read self chunk.now buffer.old).answer }
+    // next call, with the state that the answer gives back and the same buffer. A refusal changes nothing lent, and the caller still
+    // has the state.
+    #[tactic(auto, unfolding(crate::specs::Read::read, crate::specs::Read::refusals, crate::specs::Read::refusal))]
+    pub fn read(self, chunk: &[u8], buffer: &mut [u8]) -> Result<Answer<Report, Self>, Refusal>
+        ensures value { answered self result ≡ (read self chunk.now buffer.old).answer }
         ensures buffer_after { buffer.new ≡ (read self chunk.now buffer.old).buffer }
     {
         if qaft::MAX_LEVEL < self.level {
-            return self.refused(qaft::BAD_LEVEL);
+            return Err(Refusal::BadLevel);
         }
         if qaft::MAX_KIND < self.check_kind {
-            return self.refused(qaft::BAD_KIND);
+            return Err(Refusal::BadKind);
         }
         if buffer.len() < qaft::max_segment(self.check_kind) {
-            return self.refused(qaft::BUFFER_TOO_SMALL);
+            return Err(Refusal::BufferTooSmall);
         }
-        if self.well_formed() {
-            return self.scan(chunk, buffer);
+        if !self.well_formed() {
+            return Err(Refusal::BadState);
         }
-        self.refused(qaft::BAD_STATE)
-    }
-
-    fn refused(self, number: u8) -> Answer
-        ensures { result ≡ record { outcome = Outcome.Refused number; taken = 0; reader = self } }
-    {
-        Answer {
-            outcome: Outcome::Refused(number),
-            taken: 0,
-            reader: self,
-        }
+        Ok(self.scan(chunk, buffer))
     }
 
     // Whether the state is well formed.
     fn well_formed(self) -> bool
         ensures { result ≡ not (malformed self) }
     {
-        rule(self.level, self.check_kind).well_formed(self.state())
+        rule(self.level, self.check_kind).well_formed(State::from(self))
     }
 
     // The chunk's octets up to the first report.
-    fn scan(self, chunk: &[u8], buffer: &mut [u8]) -> Answer
+    fn scan(self, chunk: &[u8], buffer: &mut [u8]) -> Answer<Report, Self>
         requires { max_segment_of self.check_kind ≤ length buffer.old }
-        ensures value { result ≡ (scan_call self chunk.now buffer.old).answer }
+        ensures value { answered self (Ok result) ≡ (scan_call self chunk.now buffer.old).answer }
         ensures buffer_after { buffer.new ≡ (scan_call self chunk.now buffer.old).buffer }
     {
         let r = rule(self.level, self.check_kind);
-        let scanned = deframer::scan(r, self.state(), chunk, buffer);
+        let scanned = deframer::scan(r, State::from(self), chunk, buffer);
         let s = scanned.state;
-        let Verdict::Closed(report) = judge(self.check_kind, scanned.closed, s) else {
+        if scanned.closed {
             return Answer {
-                outcome: Outcome::UsedUp,
+                report: Some(report_on(self.check_kind, s)),
                 taken: scanned.taken,
-                reader: self.at(s),
+                reader: self.opened(),
             };
-        };
-        Answer {
-            outcome: Outcome::Reported(report),
-            taken: scanned.taken,
-            reader: self.opened(),
         }
-    }
-
-    // The state as the deframer has it, which knows no level and no kind of check.
-    fn state(self) -> State
-        ensures { result ≡ state_of self }
-    {
-        State {
-            synced: self.synced,
-            pending: self.pending,
-            bad: self.bad_pair,
-            count: self.count,
-            check: self.check,
+        Answer {
+            report: None,
+            taken: scanned.taken,
+            reader: self.at(s),
         }
     }
 
     // A state of the deframer at the reader's level, with its kind of check.
-    fn at(self, s: State) -> Reader
+    fn at(self, s: State) -> Self
         ensures { result ≡ reader_at self.level self.check_kind s }
     {
         Reader {
-            level: self.level,
-            check_kind: self.check_kind,
             synced: s.synced,
             pending: s.pending,
-            count: s.count,
-            check: s.check,
             bad_pair: s.bad,
+            check: s.check,
+            count: s.count,
+            ..self
         }
     }
 
     // The state behind a flag, which opens a segment.
-    fn opened(self) -> Reader
+    fn opened(self) -> Self
         ensures { result ≡ opened self }
     {
         Reader {
-            level: self.level,
-            check_kind: self.check_kind,
             synced: true,
-            pending: false,
-            count: 0,
-            check: blank(self.check_kind),
-            bad_pair: false,
+            ..Reader::fresh(self.level, self.check_kind)
+        }
+    }
+}
+
+// The state as the deframer has it, which knows no level and no kind of check.
+impl From<Reader> for State {
+    ghost from_gives = { λ reader s. s ≡ state_of reader };
+
+    fn from(reader: Reader) -> State {
+        State {
+            synced: reader.synced,
+            pending: reader.pending,
+            bad: reader.bad_pair,
+            count: reader.count,
+            check: reader.check,
         }
     }
 }
@@ -205,17 +181,6 @@ fn good(kind: u8) -> u16
         return fcs::RESIDUE;
     }
     0
-}
-
-// The verdict on the segment in which a call ended.
-#[tactic(auto, unfolding(crate::specs::Scanned::verdict_of))]
-fn judge(kind: u8, closed: bool, s: State) -> Verdict
-    ensures { result ≡ verdict_of kind closed s }
-{
-    if closed {
-        return Verdict::Closed(report_on(kind, s));
-    }
-    Verdict::Open
 }
 
 // What a closed segment is reported as, by the state in which the flag found it; first that applies.

@@ -1,8 +1,8 @@
 -- QAFT: the number and the values that each case of the reader's answer stands for. Cited by contracts and theorems. Assumes nothing.
 use Rattle.std.specs.Prelude.{ℕ, cond, List, [], leb, length, take}
 use Rattle.qaft.specs.Answers.{frame, aborted, long, short, bad_check, used_up, bad_pair}
-use Rattle.qaft_report.specs.declared.Outcome.{Outcome}
-use Rattle.qaft_report.specs.declared.Outcome.TheVariants.{Refused, Reported, UsedUp}
+use Rattle.qaft_report.specs.Outcome.{Outcome}
+use Rattle.qaft_report.specs.Outcome.Outcome.{Refused, Reported, UsedUp}
 use Rattle.qaft_report.specs.declared.Report.{Report}
 use Rattle.qaft_report.specs.declared.Report.TheVariants.{Frame, Aborted, Long, Short, BadCheck, BadPair}
 

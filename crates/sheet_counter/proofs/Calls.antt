@@ -1,26 +1,17 @@
 -- The cases of `count`, and the octets that a report shows. Assumes nothing.
 use Prim.Native.Nat.{ℕ, ◌≤◌, ◌<◌}
-use mathlib.Core.Bool.{cond}
-use mathlib.Core.List.{List, []}
+use mathlib.Core.List.{List}
 use mathlib.Core.Path.{◌≡◌, sym, ap, ◌∙◌}
-use native.Mathlib.Nat.{zero-add}
 use borrow.Author.Tests.{lt-ltb, le-ltb}
-use lib.Dec.{leb}
-use lib.ListN.{length, take}
-use Rattle.framing.specs.Reports.{shown}
+use lib.ListN.{length}
 use Rattle.qaft.specs.Answers.{done, buffer_too_small, bad_level}
 use Rattle.qaft.specs.Limits.{max_level, max_segment}
-use Rattle.qaft_report.specs.Answer.{shown as front_shown}
 use Rattle.sheet_counter.specs.Count.{gathered, progress_of, later, Call, call_of, refusal, refusals, count}
 use Rattle.sheet_counter.specs.declared.Counted.{Counted}
 use Rattle.sheet_counter.specs.declared.Counter.{Counter}
 use Rattle.sheet_counter.specs.declared.Progress.{Progress}
 use Rattle.sheet_octets.specs.Raw.{raw_all}
 use Rattle.sheet_octets.specs.declared.RawOctets.{RawOctets}
-
--- a frame's octets stand at the front of the buffer
-pub shown_front : (m : List ℕ) (n : ℕ) → front_shown m n ≡ shown m 0 n
-shown_front m n = ap (λ (k : ℕ). cond (leb k (length m)) (take n m) []) (sym (zero-add n))
 
 module _ (c : Counter) (xs m : List ℕ) where
   -- as the code goes: a is the answer that a refusal gives

@@ -9,6 +9,7 @@ ghost use Rattle.sheet_counter.specs.Count.{fresh_counter, gathered, progress_of
 use capture::Octets;
 use deframer::State;
 use qaft_report::Report;
+use reports::Shows;
 use sheet::Counts;
 use sheet_found::Found;
 use sheet_octets::RawOctets;
@@ -157,6 +158,5 @@ fn count_reports(c: Counter, chunk: &[u8], buffer: &mut [u8]) -> Progress
 fn with_report(found: Found, report: Report, buffer: &[u8]) -> Found
     ensures { result ≡ with_report found report buffer.now }
 {
-    let octets = report.frame_data(buffer);
-    found.with(report, octets)
+    found.with(report, report.octets(buffer))
 }

@@ -7,6 +7,7 @@ ghost use Rattle.sheet_found.specs.Found.{fresh_found, found_with, more};
 
 use dlc_packet::Kind;
 use qaft_report::Report;
+use reports::Shows;
 
 // No DATA has this number.
 const NONE: u8 = dlc_packet::MODULUS;

@@ -18,5 +18,5 @@ by_rule r = sym (malformed_view r)
 pub returns : goal.returns
 returns c =
     c.well_formed-2.ensures
-    ∙ ap₂ (λ (l : Rule) (s : State). not (framing.malformed (rules_of l) (view s))) c.rule.ensures c.state.ensures
+    ∙ ap₂ (λ (l : Rule) (s : State). not (framing.malformed (rules_of l) (view s))) c.rule.ensures c.from.ensures
     ∙ ap not (by_rule c.args.self)
