@@ -1,4 +1,5 @@
 pub mod Answers
+pub mod Refused
 pub mod Limits
 pub mod Layout
 pub mod Sizes

@@ -1,10 +1,11 @@
 // AFP: limits, answer numbers and parts of a frame, and the refusals of length and data offset, which every reader of frames has. Definitions:
-// specs/Limits, Answers, Layout, Sizes.
+// specs/Limits, Answers, Refused, Layout, Sizes.
 #![tactic(auto)]
 
 ghost use Rattle.std.specs.Prelude.{◌≡◌};
 ghost use Rattle.common.specs.FirstRefusal.{first_refusal};
 ghost use Rattle.afp.specs.Layout.{part_of};
+ghost use Rattle.afp.specs.Refused.{refused};
 ghost use Rattle.afp.specs.Sizes.{length_refusals, offset_refusals};
 
 // Limits of a frame.
@@ -55,6 +56,48 @@ pub const BAD_DATA: u8 = 40;
 
 pub const OUT_TOO_SMALL: u8 = 41;
 
+// Why a frame, or the parts of one, are refused.
+#[derive(Clone, Copy, Debug, PartialEq, Eq)]
+pub enum Refusal {
+    BadLength,
+    BadCheck,
+    BadVersion,
+    BadProtocol,
+    BadOffset,
+    BadStations,
+    BadNext,
+    BadNextSum,
+    BadSupplementary,
+    BadHeaderSum,
+    BadData,
+    OutTooSmall,
+}
+
+// Its number, which C programs are given.
+impl From<Refusal> for u8 {
+    ghost use Rattle.std.specs.Prelude.{◌≡◌};
+    ghost use Rattle.afp.specs.Refused.{number_of};
+
+    ghost from_gives = { λ refusal number. number ≡ number_of refusal };
+
+    fn from(refusal: Refusal) -> u8 {
+        match refusal {
+            Refusal::BadLength => BAD_LENGTH,
+            Refusal::BadCheck => BAD_CHECK,
+            Refusal::BadVersion => BAD_VERSION,
+            Refusal::BadProtocol => BAD_PROTOCOL,
+            Refusal::BadOffset => BAD_OFFSET,
+            Refusal::BadStations => BAD_STATIONS,
+            Refusal::BadNext => BAD_NEXT,
+            Refusal::BadNextSum => BAD_NEXT_SUM,
+            Refusal::BadSupplementary => BAD_SUPPLEMENTARY,
+            Refusal::BadHeaderSum => BAD_HEADER_SUM,
+            Refusal::BadData => BAD_DATA,
+            Refusal::OutTooSmall => OUT_TOO_SMALL,
+        }
+    }
+}
+
 // A part of a frame.
 #[repr(C)]
 #[derive(Clone, Copy)]
@@ -63,49 +106,43 @@ pub struct Part {
     pub size: usize,
 }
 
+pub const NO_PART: Part = Part { place: 0, size: 0 };
+
 // The octets of a part of a frame; what lies behind the frame's end is left out.
 pub fn octets_of(frame: &[u8], part: Part) -> &[u8]
     ensures { result.now ≡ part_of part frame.now }
 {
-    let place = part.place;
-    let size = part.size;
+    let Part { place, size } = part;
     if frame.len() <= place {
         return &frame[..0];
     }
-    let left = frame.len() - place;
-    if left < size {
-        return &frame[place..];
+    let behind = &frame[place..];
+    if behind.len() < size {
+        behind
+    } else {
+        &behind[..size]
     }
-    let end = place + size;
-    &frame[place..end]
 }
 
-// The refusal of a frame's length, or DONE.
-pub fn length_refusal(length: usize) -> u8
-    ensures { result ≡ first_refusal (length_refusals length) }
+// The refusal of a frame's length.
+pub fn length_refusal(length: usize) -> Result<(), Refusal>
+    ensures { refused result ≡ first_refusal (length_refusals length) }
 {
-    if length < MIN_FRAME {
-        return BAD_LENGTH;
+    if (MIN_FRAME..=MAX_FRAME).contains(&length) {
+        Ok(())
+    } else {
+        Err(Refusal::BadLength)
     }
-    if MAX_FRAME < length {
-        return BAD_LENGTH;
-    }
-    DONE
 }
 
-// The refusal of the data offset, octet 3, in a frame of this length, or DONE.
-pub fn offset_refusal(octet: u8, length: usize) -> u8
-    ensures { result ≡ first_refusal (offset_refusals octet length) }
+// The refusal of the data offset, octet 3, in a frame of this length: the two check octets stand behind the header.
+pub fn offset_refusal(octet: u8, length: usize) -> Result<(), Refusal>
+    ensures { refused result ≡ first_refusal (offset_refusals octet length) }
 {
-    let offset = octet as usize;
-    if offset < MIN_HEADER {
-        return BAD_OFFSET;
+    let offset = usize::from(octet);
+    if (MIN_HEADER..=MAX_HEADER).contains(&offset) && offset + 2 <= length {
+        Ok(())
+    } else {
+        Err(Refusal::BadOffset)
     }
-    if MAX_HEADER < offset {
-        return BAD_OFFSET;
-    }
-    if length < offset + 2 {
-        return BAD_OFFSET;
-    }
-    DONE
 }

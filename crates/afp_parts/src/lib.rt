@@ -11,22 +11,19 @@ use afp_read::Reading;
 pub fn station_fields(frame: &[u8], answer: Reading) -> &[u8]
     ensures { result.now ≡ part_of answer.stations frame.now }
 {
-    let part = answer.stations;
-    afp::octets_of(frame, part)
+    afp::octets_of(frame, answer.stations)
 }
 
 // The supplementary header that an answer shows, with its length octet; nothing where it is absent.
 pub fn supplementary_header(frame: &[u8], answer: Reading) -> &[u8]
     ensures { result.now ≡ part_of answer.supplementary frame.now }
 {
-    let part = answer.supplementary;
-    afp::octets_of(frame, part)
+    afp::octets_of(frame, answer.supplementary)
 }
 
 // The data that an answer shows.
 pub fn frame_data(frame: &[u8], answer: Reading) -> &[u8]
     ensures { result.now ≡ part_of answer.payload frame.now }
 {
-    let part = answer.payload;
-    afp::octets_of(frame, part)
+    afp::octets_of(frame, answer.payload)
 }

@@ -1,5 +1,5 @@
 -- The reader's answers from those of its private functions, and the meaning that they show. Assumes nothing.
-use Prim.Native.Nat.{ℕ, ◌+◌, ◌-◌, ◌≤◌, ◌<◌}
+use Prim.Native.Nat.{ℕ, ◌+◌, ◌-◌, ◌≤◌}
 use mathlib.Core.Bool.{Bool, false, cond}
 use mathlib.Core.List.{List, ◌++◌}
 use mathlib.Core.Path.{◌≡◌, sym, ap, ap₂, ◌∙◌}
@@ -32,7 +32,7 @@ pub envelope_fits : (f : List ℕ) → 0 ≡ first_refusal (envelope_refusals f)
 unfolding envelope_refusals
 envelope_fits f e = let p = first_passed (envelope_refusals f) tt (sym e) in ltb-false (length f) min_frame p.0
 
-fixed_fits : (f : List ℕ) → min_frame ≤ length f → 0 ≡ first_refusal (fixed_refusals f) → (min_header ≤ offset f) × (offset f + 2 ≤ length f)
+pub fixed_fits : (f : List ℕ) → min_frame ≤ length f → 0 ≡ first_refusal (fixed_refusals f) → (min_header ≤ offset f) × (offset f + 2 ≤ length f)
 unfolding fixed_refusals
 fixed_fits f n e =
     let q = offset_passed (offset f) (length f) n (first_passed (fixed_refusals f) tt (sym e)).1.1 in
@@ -50,18 +50,11 @@ stations_bound f a b =
     let l : length (variable_part f) ≡ offset f - fixed_size = length-variable f a b in
     omega arith
 
-module _ (f : List ℕ) (o t : ℕ) (oe : o ≡ offset f) (te : t ≡ octet f 4) where
-  variable_is : take (o - 1 - fields_at) (drop fields_at f) ≡ variable_part f
-  unfolding variable_part
-  variable_is = let z : o - 1 - fields_at ≡ offset f - fixed_size = omega arith in ap (λ (k : ℕ). take k (drop fields_at f)) z
-
-  pub stations_low : t < fields_at → stations_of 0 0 (take (o - 1 - fields_at) (drop fields_at f)) ≡ stations_in f
-  unfolding stations_in
-  stations_low h = let z : 0 ≡ octet f 4 - fields_at = omega arith in ap₂ (λ (w : ℕ) (m : List ℕ). stations_of w 0 m) z variable_is
-
-  pub stations_high : stations_of (t - fields_at) 0 (take (o - 1 - fields_at) (drop fields_at f)) ≡ stations_in f
-  unfolding stations_in
-  stations_high = ap₂ (λ (w : ℕ) (m : List ℕ). stations_of (w - fields_at) 0 m) te variable_is
+pub stations_read : (f : List ℕ) (o w : ℕ) → o ≡ offset f → w ≡ octet f 4 - fields_at → stations_of w 0 (take (o - 1 - fields_at) (drop fields_at f)) ≡ stations_in f
+unfolding stations_in variable_part
+stations_read f o w oe we =
+    let z : o - 1 - fields_at ≡ offset f - fixed_size = omega arith in
+    ap₂ (λ (w k : ℕ). stations_of w 0 (take k (drop fields_at f))) we z
 
 -- ---- the answer is refused by the first list in which a refusal applies
 module _ {A : Type 0} (refuse : ℕ → A) (done : A) (f : List ℕ) where
@@ -157,47 +150,37 @@ module _ (f : List ℕ) where
   pub read_both : (r : Reading) → r ≡ read_of f → (r ≡ read_of f) × (verdict r f ≡ meaning f)
   read_both r e = (e, ap (λ (r : Reading). verdict r f) e ∙ read_meaning)
 
--- ---- the answers of `read`, from those of the functions that it calls; each section adds a list that refuses nothing
+-- ---- the refusals of `checked`, past a list that refuses nothing
+module _ (f : List ℕ) (a : 0 ≡ first_refusal (envelope_refusals f)) (b : 0 ≡ first_refusal (fixed_refusals f)) (r : Stations) (re : r ≡ stations_in f) where
+  pub end_fits : (offset f + 2 ≤ length f) × (r.end + fixed_size ≤ offset f)
+  end_fits =
+      let p = fixed_fits f (envelope_fits f a) b in
+      (p.1, rw re (stations_bound f p.0 p.1))
+
+  pub station_first : (n : ℕ) → n ≡ first_refusal (station_refusals f r) → (n ≡ 0 → ⊥) → n ≡ first_refusal (refusals f)
+  station_first n e z = sym (refused_station (λ n. n) 0 f a b n (e ∙ ap (λ (r : Stations). first_refusal (station_refusals f r)) re) z)
+
+  module _ (c : 0 ≡ first_refusal (station_refusals f r)) where
+    none : 0 ≡ first_refusal (station_refusals f (stations_in f))
+    none = c ∙ ap (λ (r : Stations). first_refusal (station_refusals f r)) re
+
+    at_end : first_refusal (rest_refusals f r.end) ≡ first_refusal (rest_refusals f (stations_in f).end)
+    at_end = ap (λ (r : Stations). first_refusal (rest_refusals f r.end)) re
+
+    pub rest_first : (n : ℕ) → n ≡ first_refusal (rest_refusals f r.end) → (n ≡ 0 → ⊥) → n ≡ first_refusal (refusals f)
+    rest_first n e z = sym (refused-rest (λ n. n) 0 f a b none n (e ∙ at_end) z)
+
+    pub none_first : 0 ≡ first_refusal (rest_refusals f r.end) → 0 ≡ first_refusal (refusals f)
+    none_first d = sym (not_refused (λ n. n) 0 f a b none (d ∙ at_end))
+
+-- ---- the answers of `read`
 module _ (f : List ℕ) where
-  answered : (n : ℕ) → guarded (refusals f) refused_reading (accepted_reading f (stations_in f)) ≡ refused_reading n → (v : Reading) → v ≡ refused_reading n
-      → (v ≡ read_of f) × (verdict v f ≡ meaning f)
+  pub read_refused : (n : ℕ) → n ≡ first_refusal (refusals f) → (n ≡ 0 → ⊥) → (v : Reading) → v ≡ refused_reading n → (v ≡ read_of f) × (verdict v f ≡ meaning f)
   unfolding read_of
-  answered n g v e = read_both f v (e ∙ sym g)
+  read_refused n e z v w = read_both f v (w ∙ sym (guarded_first refused_reading (accepted_reading f (stations_in f)) (refusals f) n e z))
 
-  pub read_envelope : (n : ℕ) → n ≡ first_refusal (envelope_refusals f) → (n ≡ 0 → ⊥) → (v : Reading) → v ≡ refused_reading n → (v ≡ read_of f) × (verdict v f ≡ meaning f)
-  read_envelope n e z = answered n (refused_envelope refused_reading (accepted_reading f (stations_in f)) f n e z)
-
-  module _ (a : 0 ≡ first_refusal (envelope_refusals f)) where
-    pub read_fixed : (n : ℕ) → n ≡ first_refusal (fixed_refusals f) → (n ≡ 0 → ⊥) → (v : Reading) → v ≡ refused_reading n → (v ≡ read_of f) × (verdict v f ≡ meaning f)
-    read_fixed n e z = answered n (refused_fixed refused_reading (accepted_reading f (stations_in f)) f a n e z)
-
-    module _ (b : 0 ≡ first_refusal (fixed_refusals f)) where
-      pub offset_fits : (min_header ≤ offset f) × (offset f + 2 ≤ length f)
-      offset_fits = fixed_fits f (envelope_fits f a) b
-
-      module _ (r : Stations) (re : r ≡ stations_in f) where
-        pub end_fits : (offset f + 2 ≤ length f) × (r.end + fixed_size ≤ offset f)
-        end_fits =
-            let p = offset_fits in
-            (p.1, rw re (stations_bound f p.0 p.1))
-
-        pub read-station : (n : ℕ) → n ≡ first_refusal (station_refusals f r) → (n ≡ 0 → ⊥) → (v : Reading) → v ≡ refused_reading n → (v ≡ read_of f) × (verdict v f ≡ meaning f)
-        read-station n e z =
-            answered n
-            (refused_station refused_reading (accepted_reading f (stations_in f)) f a b n (e ∙ ap (λ (r : Stations). first_refusal (station_refusals f r)) re) z)
-
-        module _ (c : 0 ≡ first_refusal (station_refusals f r)) where
-          none : 0 ≡ first_refusal (station_refusals f (stations_in f))
-          none = c ∙ ap (λ (r : Stations). first_refusal (station_refusals f r)) re
-
-          at-end : first_refusal (rest_refusals f r.end) ≡ first_refusal (rest_refusals f (stations_in f).end)
-          at-end = ap (λ (r : Stations). first_refusal (rest_refusals f r.end)) re
-
-          pub read-rest : (n : ℕ) → n ≡ first_refusal (rest_refusals f r.end) → (n ≡ 0 → ⊥) → (v : Reading) → v ≡ refused_reading n → (v ≡ read_of f) × (verdict v f ≡ meaning f)
-          read-rest n e z = answered n (refused-rest refused_reading (accepted_reading f (stations_in f)) f a b none n (e ∙ at-end) z)
-
-          pub read-accepted : 0 ≡ first_refusal (rest_refusals f r.end) → (v : Reading) → v ≡ accepted_reading f r → (v ≡ read_of f) × (verdict v f ≡ meaning f)
-          unfolding read_of
-          read-accepted d v e =
-              read_both f v
-              (e ∙ ap (accepted_reading f) re ∙ sym (not_refused refused_reading (accepted_reading f (stations_in f)) f a b none (d ∙ at-end)))
+  pub read_accepted : 0 ≡ first_refusal (refusals f) → (r : Stations) → r ≡ stations_in f → (v : Reading) → v ≡ accepted_reading f r → (v ≡ read_of f) × (verdict v f ≡ meaning f)
+  unfolding read_of refusals envelope_refusals fixed_refusals station_refusals rest_refusals
+  read_accepted e r re v w =
+      read_both f v
+      (w ∙ ap (accepted_reading f) re ∙ sym (guarded_done refused_reading (accepted_reading f (stations_in f)) (refusals f) (first_passed (refusals f) tt (sym e))))

@@ -1,14 +1,15 @@
 // The AFP reader: the first refusal of a frame, or what stands where in it. Definitions: specs/Read, specs/Meaning.
 #![tactic(auto)]
 
-ghost use Rattle.std.specs.Prelude.{◌≡◌, ◌+◌, ◌≤◌, length};
+ghost use Rattle.std.specs.Prelude.{◌≡◌, ◌+◌, ◌≤◌, length, IfOk};
 ghost use Rattle.common.specs.FirstRefusal.{first_refusal};
+ghost use Rattle.afp.specs.Refused.{number_of, refused};
 ghost use Rattle.afp.specs.Limits.{min_frame, min_header, fixed_size};
 ghost use Rattle.afp.specs.Layout.{offset, stations_in, right_header_sum};
-ghost use Rattle.afp_read.specs.Read.{envelope_refusals, fixed_refusals, station_refusals, rest_refusals, refused_reading, accepted_reading, read_of};
+ghost use Rattle.afp_read.specs.Read.{envelope_refusals, fixed_refusals, station_refusals, rest_refusals, refusals, refused_reading, accepted_reading, read_of};
 ghost use Rattle.afp_read.specs.Meaning.{meaning, verdict};
 
-use afp::Part;
+use afp::{Part, Refusal};
 use stations::Stations;
 
 // The first protocol octet that is reserved.
@@ -36,55 +37,50 @@ pub struct Reading {
 pub fn read(frame: &[u8]) -> Reading
     ensures { (result ≡ read_of frame.now) × (verdict result frame.now ≡ meaning frame.now) }
 {
-    let refusal = envelope_refusal(frame);
-    if refusal != afp::DONE {
-        return refuse(refusal);
+    match checked(frame) {
+        Ok(parsed) => accept(frame, parsed),
+        Err(refusal) => refuse(refusal),
     }
-    let refusal = fixed_refusal(frame);
-    if refusal != afp::DONE {
-        return refuse(refusal);
-    }
-    let parsed = stations_in(frame);
-    let refusal = station_refusal(frame, parsed);
-    if refusal != afp::DONE {
-        return refuse(refusal);
-    }
-    let end = parsed.end;
-    let refusal = rest_refusal(frame, end);
-    if refusal != afp::DONE {
-        return refuse(refusal);
-    }
-    accept(frame, parsed)
 }
 
-// The refusal of a frame's length or check sequence, or DONE.
-fn envelope_refusal(frame: &[u8]) -> u8
-    ensures { result ≡ first_refusal (envelope_refusals frame.now) }
+// What the station fields hold of a frame that is not refused.
+fn checked(frame: &[u8]) -> Result<Stations, Refusal>
+    ensures first { refused result ≡ first_refusal (refusals frame.now) }
+    ensures fits { IfOk result (λ parsed. (parsed ≡ stations_in frame.now) × (offset frame.now + 2 ≤ length frame.now) × (parsed.end + fixed_size ≤ offset frame.now)) }
 {
-    let refusal = afp::length_refusal(frame.len());
-    if refusal != afp::DONE {
-        return refusal;
-    }
+    envelope_refusal(frame)?;
+    fixed_refusal(frame)?;
+    let parsed = stations_in(frame);
+    station_refusal(frame, parsed)?;
+    rest_refusal(frame, parsed.end)?;
+    Ok(parsed)
+}
+
+// The refusal of a frame's length or check sequence.
+fn envelope_refusal(frame: &[u8]) -> Result<(), Refusal>
+    ensures { refused result ≡ first_refusal (envelope_refusals frame.now) }
+{
+    afp::length_refusal(frame.len())?;
     let low = frame.len() - 2;
     let high = frame.len() - 1;
-    let received = wide(frame[low]) + wide(frame[high]) * 256;
+    let received = u16::from_le_bytes([frame[low], frame[high]]);
     let check = fcs::check_sequence(&frame[..low]);
     if received != check {
-        return afp::BAD_CHECK;
+        return Err(Refusal::BadCheck);
     }
-    afp::DONE
+    Ok(())
 }
 
-// The refusal of version, protocol or data offset, or DONE.
-fn fixed_refusal(frame: &[u8]) -> u8
+// The refusal of version, protocol or data offset.
+fn fixed_refusal(frame: &[u8]) -> Result<(), Refusal>
     requires { min_frame ≤ length frame.now }
-    ensures { result ≡ first_refusal (fixed_refusals frame.now) }
+    ensures { refused result ≡ first_refusal (fixed_refusals frame.now) }
 {
     if frame[1] != afp::VERSION {
-        return afp::BAD_VERSION;
+        return Err(Refusal::BadVersion);
     }
     if FIRST_RESERVED <= frame[2] {
-        return afp::BAD_PROTOCOL;
+        return Err(Refusal::BadProtocol);
     }
     afp::offset_refusal(frame[3], frame.len())
 }
@@ -94,127 +90,98 @@ fn stations_in(frame: &[u8]) -> Stations
     requires { (min_header ≤ offset frame.now) × (offset frame.now + 2 ≤ length frame.now) }
     ensures { result ≡ stations_in frame.now }
 {
-    let sum_at = size(frame[3]) - 1;
-    let variable = &frame[stations::FIELDS_AT..sum_at];
-    let place = size(frame[4]);
-    if place < stations::FIELDS_AT {
-        return stations::parse(variable, 0, 0);
-    }
-    let index = place - stations::FIELDS_AT;
-    stations::parse(variable, index, 0)
+    let sum_at = usize::from(frame[3]) - 1;
+    let pointed = usize::from(frame[4]).saturating_sub(stations::FIELDS_AT);
+    stations::parse(&frame[stations::FIELDS_AT..sum_at], pointed, 0)
 }
 
-// The refusal of station fields, octet 4 or octet 0, or DONE.
-fn station_refusal(frame: &[u8], parsed: Stations) -> u8
+// The refusal of station fields, octet 4 or octet 0.
+fn station_refusal(frame: &[u8], parsed: Stations) -> Result<(), Refusal>
     requires { min_frame ≤ length frame.now }
-    ensures { result ≡ first_refusal (station_refusals frame.now parsed) }
+    ensures { refused result ≡ first_refusal (station_refusals frame.now parsed) }
 {
-    let end = parsed.end;
-    if end == 0 {
-        return afp::BAD_STATIONS;
+    if parsed.end == 0 {
+        return Err(Refusal::BadStations);
     }
-    let next = parsed.next;
-    if stations::offset_is(frame[4], next) {
-        if stations::lacks_next(parsed) {
-            return afp::BAD_NEXT;
-        }
-        let sum = next.sum;
-        if frame[0] != sum {
-            return afp::BAD_NEXT_SUM;
-        }
-        return afp::DONE;
+    if !stations::offset_is(frame[4], parsed.next) {
+        return Err(Refusal::BadNext);
     }
-    afp::BAD_NEXT
+    if stations::lacks_next(parsed) {
+        return Err(Refusal::BadNext);
+    }
+    if frame[0] != parsed.next.sum {
+        return Err(Refusal::BadNextSum);
+    }
+    Ok(())
 }
 
-// The refusal of supplementary header, header sum or data, or DONE; the station fields have `end` octets.
-fn rest_refusal(frame: &[u8], end: usize) -> u8
+// The refusal of supplementary header, header sum or data; the station fields have `end` octets.
+fn rest_refusal(frame: &[u8], end: usize) -> Result<(), Refusal>
     requires { (offset frame.now + 2 ≤ length frame.now) × (end + fixed_size ≤ offset frame.now) }
-    ensures { result ≡ first_refusal (rest_refusals frame.now end) }
+    ensures { refused result ≡ first_refusal (rest_refusals frame.now end) }
 {
-    let data_at = size(frame[3]);
+    let data_at = usize::from(frame[3]);
     let sum_at = data_at - 1;
     let start = stations::FIELDS_AT + end;
-    if supplementary::valid_supplementary(&frame[start..sum_at]) {
-        let received = frame[sum_at];
-        if right_header_sum(received, &frame[..sum_at]) {
-            let count = frame.len() - 2 - data_at;
-            if afp::MAX_DATA < count {
-                return afp::BAD_DATA;
-            }
-            return afp::DONE;
-        }
-        return afp::BAD_HEADER_SUM;
+    if !supplementary::valid_supplementary(&frame[start..sum_at]) {
+        return Err(Refusal::BadSupplementary);
     }
-    afp::BAD_SUPPLEMENTARY
+    if !right_header_sum(frame[sum_at], &frame[..sum_at]) {
+        return Err(Refusal::BadHeaderSum);
+    }
+    if afp::MAX_DATA < frame.len() - 2 - data_at {
+        return Err(Refusal::BadData);
+    }
+    Ok(())
 }
 
 // Whether a received header sum was not calculated, or is right.
+#[tactic(auto, unfolding(afp::specs::Layout::right_header_sum))]
 fn right_header_sum(received: u8, header: &[u8]) -> bool
     ensures { result ≡ right_header_sum received header.now }
 {
-    if received == NOT_CALCULATED {
-        return true;
-    }
-    received == sums::header_sum(header)
+    received == NOT_CALCULATED || received == sums::header_sum(header)
 }
 
 fn accept(frame: &[u8], parsed: Stations) -> Reading
     requires { (offset frame.now + 2 ≤ length frame.now) × (parsed.end + fixed_size ≤ offset frame.now) }
     ensures { result ≡ accepted_reading frame.now parsed }
 {
-    let data_at = size(frame[3]);
+    let data_at = usize::from(frame[3]);
     let sum_at = data_at - 1;
-    let end = parsed.end;
-    let count = parsed.count;
-    let next = parsed.next;
-    let number = next.number;
-    let protocol = frame[2];
-    let left = frame.len() - 2 - data_at;
+    let Stations { end, count, next } = parsed;
     Reading {
         number: afp::DONE,
-        protocol: protocol,
+        protocol: frame[2],
         stations: Part {
             place: stations::FIELDS_AT,
             size: end,
         },
         ids: count,
-        next: number,
+        next: next.number,
         supplementary: Part {
             place: stations::FIELDS_AT + end,
             size: data_at - afp::FIXED_SIZE - end,
         },
         payload: Part {
             place: data_at,
-            size: left,
+            size: frame.len() - 2 - data_at,
         },
         unchecked: frame[sum_at] == NOT_CALCULATED,
     }
 }
 
-fn refuse(number: u8) -> Reading
-    ensures { result ≡ refused_reading number }
+fn refuse(refusal: Refusal) -> Reading
+    ensures { result ≡ refused_reading (number_of refusal) }
 {
     Reading {
-        number: number,
+        number: u8::from(refusal),
         protocol: 0,
-        stations: Part { place: 0, size: 0 },
+        stations: afp::NO_PART,
         ids: 0,
         next: 0,
-        supplementary: Part { place: 0, size: 0 },
-        payload: Part { place: 0, size: 0 },
+        supplementary: afp::NO_PART,
+        payload: afp::NO_PART,
         unchecked: false,
     }
-}
-
-fn size(octet: u8) -> usize
-    ensures { result ≡ octet }
-{
-    octet as usize
-}
-
-fn wide(octet: u8) -> u16
-    ensures { result ≡ octet }
-{
-    octet as u16
 }

@@ -1,5 +1,11 @@
 -- The answers of `next_receiver`, one law for each; each section adds a test that refuses nothing. Assumes nothing.
-use mathlib.Core.Path.{◌≡◌, sym, ◌∙◌}
+use mathlib.Core.Path.{◌≡◌, sym, ap, ◌∙◌}
+use Rattle.std.proofs.Common.{Result, Ok, Err}
+use Rattle.std.specs.Result.{IsErrAnd}
+use Rattle.afp.specs.Refused.{number_of}
+use Rattle.afp.specs.declared.Refusal.{Refusal}
+use Rattle.afp_receiver.specs.Told.{told}
+use Rattle.afp_receiver.specs.declared.Receiver.{Receiver}
 use mathlib.Core.Bool.{false, cond, not}
 use mathlib.Core.List.{List, ◌++◌}
 use Prim.Native.Nat.{ℕ, ◌+◌, ◌-◌, ◌≤◌, ◌<◌}
@@ -92,3 +98,8 @@ module _ (f : List ℕ) where
         late-place l h =
             let o = offset_in in
             sym (place-within (omega arith) h) ∙ late_field f z l
+
+-- what is handed on by `?` is told as refused
+pub told_on : (r : Result Receiver Refusal) (e : Refusal) → IsErrAnd r (λ x. x ≡ e) → told r ≡ Refused (number_of e)
+told_on (Ok x) e h = absurd h
+told_on (Err x) e h = ap (λ (e : Refusal). Refused (number_of e)) h

@@ -1,3 +1,4 @@
 pub mod Receiver
 pub mod Plain
 pub mod Examples
+pub mod Told

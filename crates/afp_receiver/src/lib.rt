@@ -8,15 +8,17 @@ ghost use Rattle.afp.specs.Limits.{min_header};
 ghost use Rattle.afp.specs.Layout.{offset, part_of};
 ghost use Rattle.afp_receiver.specs.Receiver.{pointer, first_next, field_refusals, field_part, receiver_of, number, field};
 ghost use Rattle.afp_receiver.specs.declared.Receiver.TheVariants.{Refused, Station};
+ghost use Rattle.afp_receiver.specs.Told.{told};
 ghost use Rattle.afp_receiver.specs.Plain.{plain_receiver_of};
 
-use afp::Part;
+use afp::{Part, Refusal};
 use stations::Field;
 
 // The first place of a second ID: a source of one octet, with its length octet, may stand before it.
 const FIRST_NEXT: usize = stations::FIELDS_AT + 2;
 
-// Who a frame is for next: all stations, or the one whose field, its length octet too, is that part of the frame. Or why that can't be said.
+// Who a frame is for next: all stations, or the one whose field, its length octet too, is that part of the frame. Or why that can't be said:
+// any number, since `number` answers for each.
 #[derive(Clone, Copy)]
 pub enum Receiver {
     Refused(u8),
@@ -36,47 +38,51 @@ pub struct PlainReceiver {
 pub fn next_receiver(frame: &[u8]) -> Receiver
     ensures { result ≡ receiver_of frame.now }
 {
-    let refusal = afp::length_refusal(frame.len());
-    if refusal != afp::DONE {
-        return Receiver::Refused(refusal);
+    match judged(frame) {
+        Ok(receiver) => receiver,
+        Err(refusal) => Receiver::Refused(u8::from(refusal)),
     }
-    let refusal = afp::offset_refusal(frame[3], frame.len());
-    if refusal != afp::DONE {
-        return Receiver::Refused(refusal);
-    }
-    let place = size(frame[4]);
+}
+
+// The same with the refusal by itself.
+fn judged(frame: &[u8]) -> Result<Receiver, Refusal>
+    ensures { told result ≡ receiver_of frame.now }
+{
+    afp::length_refusal(frame.len())?;
+    afp::offset_refusal(frame[3], frame.len())?;
+    let place = usize::from(frame[4]);
     if place == 0 {
         if frame[0] != sums::BROADCAST_SUM {
-            return Receiver::Refused(afp::BAD_NEXT_SUM);
+            return Err(Refusal::BadNextSum);
         }
-        return Receiver::Broadcast;
+        return Ok(Receiver::Broadcast);
     }
     if place < FIRST_NEXT {
-        return Receiver::Refused(afp::BAD_NEXT);
+        return Err(Refusal::BadNext);
     }
-    if size(frame[3]) - 2 < place {
-        return Receiver::Refused(afp::BAD_NEXT);
+    if usize::from(frame[3]) - 2 < place {
+        return Err(Refusal::BadNext);
     }
     station_at(frame, place)
 }
 
 // The station whose field begins at a place. Behind the field stand the closing 0 and the header sum, before the data offset: so the field
 // is looked for in the octets up to two before it.
-fn station_at(frame: &[u8], place: usize) -> Receiver
+fn station_at(frame: &[u8], place: usize) -> Result<Receiver, Refusal>
     requires { (min_header ≤ offset frame.now) × (offset frame.now + 2 ≤ length frame.now) × (place ≡ pointer frame.now) × (first_next ≤ place) × (place ≤ offset frame.now - 2) }
-    ensures { result ≡ guarded (field_refusals frame.now) Refused (Station (field_part frame.now)) }
+    ensures { told result ≡ guarded (field_refusals frame.now) Refused (Station (field_part frame.now)) }
 {
-    let closing = size(frame[3]) - 2;
+    let closing = usize::from(frame[3]) - 2;
     let Field::Id(end) = stations::field_at(&frame[..closing], place) else {
-        return Receiver::Refused(afp::BAD_STATIONS);
+        return Err(Refusal::BadStations);
     };
     if frame[0] != sums::next_station_sum(&frame[place..end]) {
-        return Receiver::Refused(afp::BAD_NEXT_SUM);
+        return Err(Refusal::BadNextSum);
     }
-    Receiver::Station(Part {
-        place: place,
+    Ok(Receiver::Station(Part {
+        place,
         size: end - place,
-    })
+    }))
 }
 
 impl Receiver {
@@ -86,8 +92,7 @@ impl Receiver {
     {
         match self {
             Receiver::Refused(n) => n,
-            Receiver::Broadcast => afp::DONE,
-            Receiver::Station(_) => afp::DONE,
+            Receiver::Broadcast | Receiver::Station(_) => afp::DONE,
         }
     }
 
@@ -96,8 +101,7 @@ impl Receiver {
         ensures { result ≡ field self }
     {
         match self {
-            Receiver::Refused(_) => Part { place: 0, size: 0 },
-            Receiver::Broadcast => Part { place: 0, size: 0 },
+            Receiver::Refused(_) | Receiver::Broadcast => afp::NO_PART,
             Receiver::Station(part) => part,
         }
     }
@@ -106,8 +110,7 @@ impl Receiver {
     pub fn station_field(self, frame: &[u8]) -> &[u8]
         ensures { result.now ≡ part_of (field self) frame.now }
     {
-        let part = self.field();
-        afp::octets_of(frame, part)
+        afp::octets_of(frame, self.field())
     }
 }
 
@@ -120,10 +123,4 @@ pub fn plain_receiver(frame: &[u8]) -> PlainReceiver
         number: receiver.number(),
         field: receiver.field(),
     }
-}
-
-fn size(octet: u8) -> usize
-    ensures { result ≡ octet }
-{
-    octet as usize
 }

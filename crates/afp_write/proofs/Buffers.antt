@@ -8,7 +8,6 @@ use lib.Seq.{sets}
 use Rattle.fcs.specs.Fcs.{check_sequence, check_octets}
 use Rattle.stations.specs.declared.Next.{Next}
 use Rattle.sums.specs.Sum.{header_sum}
-use Rattle.stations.specs.declared.Stations.{Stations}
 use Rattle.stations.specs.Fields.{fields_at, stations_of, next_offset}
 use Rattle.common.specs.Buffer.{with_front}
 use Rattle.common.proofs.Buffer.{take-with_front, sets-with_front, sets-front}
@@ -75,7 +74,7 @@ length-frame p s n h d =
     rw (length-append (header_of p x s h ++ d) (check_octets (header_of p x s h ++ d)), length-append (header_of p x s h) d, length-header p x s h) (omega arith)
 
 -- the frame of the next station that was found
-pub frame_of_lem : (p : ℕ) (s : List ℕ) (n : ℕ) (h d out : List ℕ) (r : Stations) → r ≡ stations_of 0 n s
-    → with_front (with_check (header_of p r.next s h ++ d)) out ≡ with_front (frame_of p s n h d) out
+pub frame_of_lem : (p : ℕ) (s : List ℕ) (n : ℕ) (h d out : List ℕ) (x : Next) → x ≡ (stations_of 0 n s).next
+    → with_front (with_check (header_of p x s h ++ d)) out ≡ with_front (frame_of p s n h d) out
 unfolding frame_of
-frame_of_lem p s n h d out r e = ap (λ (r : Stations). with_front (with_check (header_of p r.next s h ++ d)) out) e
+frame_of_lem p s n h d out x e = ap (λ (x : Next). with_front (with_check (header_of p x s h ++ d)) out) e

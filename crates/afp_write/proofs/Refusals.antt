@@ -7,7 +7,7 @@ use native.Mathlib.Omega.{arith}
 use borrow.Author.Tests.{le-leb, lt-leb, lt-ltb, le-ltb, eq-eqb, ne_eqb, ltb-false}
 use lib.Dec.{ltb, eqb}
 use lib.ListN.{length}
-use Rattle.common.specs.Refusals.{Refusal, guarded}
+use Rattle.common.specs.Refusals.{Refusal}
 use Rattle.common.specs.FirstRefusal.{first_refusal}
 use Rattle.common.specs.Buffer.{with_front}
 use Rattle.common.proofs.Refusals.{guarded_done}
@@ -100,50 +100,46 @@ module _ (s h d room : ℕ) where
       let a : header_length s h ≤ max_header = ltb-false max_header (header_length s h) q.1.0 in
       (omega arith, ltb-false room (header_length s h + d + 2) q.1.1.1.0)
 
--- ---- the writer's answers
-module _ (p : ℕ) (s : List ℕ) (n : ℕ) (h d out : List ℕ) (r : Stations) (re : r ≡ stations_of 0 n s) (a : ℕ) (ae : a ≡ first_refusal (part_refusals p s r n h)) where
+-- ---- both lists: the first in which a refusal applies decides; r is what the station fields hold
+module _ (p : ℕ) (s : List ℕ) (n : ℕ) (h d : List ℕ) (room : ℕ) (r : Stations) (re : r ≡ stations_of 0 n s) where
   abbrev parts : List Refusal
   parts = part_refusals p s (stations_of 0 n s) n h
 
   abbrev rest : List Refusal
-  rest = size_refusals (length s) (length h) (length d) (length out)
+  rest = size_refusals (length s) (length h) (length d) room
 
-  a_is : a ≡ first_refusal parts
-  a_is = ae ∙ ap (λ (r : Stations). first_refusal (part_refusals p s r n h)) re
+  abbrev all : ℕ
+  all = first_refusal (write_refusals p s n h d room)
 
-  module _ {A : Type 0} (refuse : ℕ → A) (done : A) where
-    refused_part : (a ≡ 0 → ⊥) → refuse a ≡ guarded (write_refusals p s n h d (length out)) refuse done
-    unfolding write_refusals
-    refused_part z = sym (guarded-++ refuse done parts rest ∙ guarded_first refuse (guarded rest refuse done) parts a a_is z)
+  parts_of : first_refusal (part_refusals p s r n h) ≡ first_refusal parts
+  parts_of = ap (λ (r : Stations). first_refusal (part_refusals p s r n h)) re
 
-    module _ (az : a ≡ 0) (b : ℕ) (be : b ≡ first_refusal rest) where
-      to_sizes : guarded (write_refusals p s n h d (length out)) refuse done ≡ guarded rest refuse done
-      unfolding write_refusals part_refusals
-      to_sizes = guarded-++ refuse done parts rest ∙ guarded_done refuse (guarded rest refuse done) parts (first_passed parts tt (sym a_is ∙ az))
+  pub part_first : (a : ℕ) → a ≡ first_refusal (part_refusals p s r n h) → (a ≡ 0 → ⊥) → a ≡ all
+  unfolding write_refusals
+  part_first a e z = sym (guarded-++ (λ n. n) 0 parts rest ∙ guarded_first (λ n. n) (first_refusal rest) parts a (e ∙ parts_of) z)
 
-      refused_size : (b ≡ 0 → ⊥) → refuse b ≡ guarded (write_refusals p s n h d (length out)) refuse done
-      refused_size z = sym (to_sizes ∙ guarded_first refuse done rest b be z)
+  module _ (none : 0 ≡ first_refusal (part_refusals p s r n h)) where
+    pub size_first : (b : ℕ) → b ≡ first_refusal rest → b ≡ all
+    unfolding write_refusals part_refusals
+    size_first b e = e ∙ sym (guarded-++ (λ n. n) 0 parts rest ∙ guarded_done (λ n. n) (first_refusal rest) parts (first_passed parts tt (sym (none ∙ parts_of))))
 
-      not_refused : b ≡ 0 → done ≡ guarded (write_refusals p s n h d (length out)) refuse done
-      unfolding size_refusals
-      not_refused z = sym (to_sizes ∙ guarded_done refuse done rest (first_passed rest tt (sym be ∙ z)))
-
-  -- the answer v, and the buffer o after it
+-- ---- the writer's answer v, and the buffer o after it
+module _ (p : ℕ) (s : List ℕ) (n : ℕ) (h d out : List ℕ) where
   abbrev Promised : Written → List ℕ → Type 0
   Promised v o = (v ≡ write_of p s n h d out) × (o ≡ buffer_of p s n h d out)
 
-  pub write_part : (v : Written) → v ≡ refused_writing a → (a ≡ 0 → ⊥) → Promised v out
+  pub write_refused : (a : ℕ) → a ≡ first_refusal (write_refusals p s n h d (length out)) → (a ≡ 0 → ⊥) → Promised (refused_writing a) out
   unfolding write_of buffer_of
-  write_part v e z =
-      (e ∙ refused_part refused_writing (written (length (frame_of p s n h d))) z, refused_part (λ k. out) (with_front (frame_of p s n h d) out) z)
+  write_refused a e z =
+      let ts = write_refusals p s n h d (length out) in
+      (sym (guarded_first refused_writing (written (length (frame_of p s n h d))) ts a e z), sym (guarded_first (λ k. out) (with_front (frame_of p s n h d) out) ts a e z))
 
-  module _ (az : a ≡ 0) (b : ℕ) (be : b ≡ first_refusal rest) where
-    pub write_size : (v : Written) → v ≡ refused_writing b → (b ≡ 0 → ⊥) → Promised v out
-    unfolding write_of buffer_of
-    write_size v e z =
-        (e ∙ refused_size refused_writing (written (length (frame_of p s n h d))) az b be z, refused_size (λ k. out) (with_front (frame_of p s n h d) out) az b be z)
-
-    pub write_done : (k : ℕ) (o : List ℕ) → b ≡ 0 → k ≡ length (frame_of p s n h d) → o ≡ with_front (frame_of p s n h d) out → Promised (written k) o
-    unfolding write_of buffer_of
-    write_done k o z ke oe =
-        (ap written ke ∙ not_refused refused_writing (written (length (frame_of p s n h d))) az b be z, oe ∙ not_refused (λ k. out) (with_front (frame_of p s n h d) out) az b be z)
+  pub write_done : 0 ≡ first_refusal (write_refusals p s n h d (length out)) → (k : ℕ) (o : List ℕ) → k ≡ length (frame_of p s n h d) → o ≡ with_front (frame_of p s n h d) out
+      → Promised (written k) o
+  unfolding write_of buffer_of write_refusals part_refusals size_refusals
+  write_done e k o ke oe =
+      let ts = write_refusals p s n h d (length out) in
+      let q = first_passed ts tt (sym e) in (
+        ap written ke ∙ sym (guarded_done refused_writing (written (length (frame_of p s n h d))) ts q),
+        oe ∙ sym (guarded_done (λ k. out) (with_front (frame_of p s n h d) out) ts q),
+      )

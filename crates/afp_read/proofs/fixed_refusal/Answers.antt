@@ -10,4 +10,4 @@ pub returns-then-frame-ge-FIRST_RESERVED : goal.returns-then-frame-ge-FIRST_RESE
 returns-then-frame-ge-FIRST_RESERVED c = fixed_protocol c.args.frame.now c.if-frame-ne-VERSION.false (omega arith)
 
 pub returns : goal.returns
-returns c = fixed_offset c.args.frame.now c.if-frame-ne-VERSION.false (omega arith) c.offset_refusal.result c.offset_refusal.ensures
+returns c = fixed_offset c.args.frame.now c.if-frame-ne-VERSION.false (omega arith) _ c.offset_refusal.ensures

@@ -1,11 +1,8 @@
--- `afp_read::stations_in`: one law for each place of the next station.
-use Rattle.std.proofs.Common.{◌∙◌, arith}
-use Rattle.afp_read.proofs.Answers.{stations_low, stations_high}
+-- `afp_read::stations_in`: the next station is looked for at octet 4 less 5.
+use Rattle.std.proofs.Common.{ℕ, ◌-◌, ◌∙◌, ap}
+use Rattle.stations.specs.Fields.{fields_at}
+use Rattle.afp_read.proofs.Answers.{stations_read}
 use Rattle.afp_read.proofs.stations_in.Goals as goal
 
-pub returns-then-place-lt-FIELDS_AT : goal.returns-then-place-lt-FIELDS_AT
-returns-then-place-lt-FIELDS_AT c =
-    cc (stations_low c.args.frame.now c.size-sum_at.result c.size-place.result c.size-sum_at.ensures c.size-place.ensures (omega arith))
-
 pub returns : goal.returns
-returns c = c.parse-2.ensures ∙ stations_high c.args.frame.now c.size-sum_at.result c.size-place.result c.size-sum_at.ensures c.size-place.ensures
+returns c = c.parse.ensures ∙ stations_read c.args.frame.now c.from-sum_at.result c.saturating_sub-pointed.result c.from-sum_at.ensures (c.saturating_sub-pointed.ensures ∙ ap (λ (o : ℕ). o - fields_at) c.from.ensures)
