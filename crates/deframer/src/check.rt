@@ -8,36 +8,29 @@ ghost use Rattle.deframer.specs.Run.{added_all};
 pub(crate) fn blank(kind: u8) -> u16
     ensures { result ≡ blank_of kind }
 {
-    if kind == crate::REGISTER {
-        return fcs::PRESET;
+    match kind {
+        crate::REGISTER => fcs::PRESET,
+        _ => 0,
     }
-    0
 }
 
 // Whether a number can be a check.
 pub(crate) fn is_check(kind: u8, check: u16) -> bool
     ensures { result ≡ is_check_of kind check }
 {
-    if kind == crate::SUM {
-        return check < 256;
-    }
-    true
+    kind != crate::SUM || check < 256
 }
 
 #[tactic(auto, unfolding(crate::specs::Rule::added))]
 pub(crate) fn added(kind: u8, count: usize, check: u16, x: u8) -> u16
     ensures { result ≡ added kind count check x }
 {
-    if kind == crate::SUM {
-        return (check % 256 + x as u16) % 256;
+    match kind {
+        crate::SUM => (check % 256 + u16::from(x)) % 256,
+        crate::REGISTER => fcs::feed_octet(check, x),
+        _ if count == 0 => u16::from(x),
+        _ => check,
     }
-    if kind == crate::REGISTER {
-        return fcs::feed_octet(check, x);
-    }
-    if count == 0 {
-        return x as u16;
-    }
-    check
 }
 
 // The octets of a run are put into the buffer from the index `count` on. The sum is taken in the same pass.

@@ -1,7 +1,7 @@
 // The loop over a chunk that the readers of all flagged, escaped lines share, up to the flag that closes a segment. A reader
 // hands over its rule, and judges the state that the flag found. What a rule says: specs/Rule; a call: specs/Scan; the laws of
 // it: the crate framing. Runs of octets that stand for themselves: run.rt; the running check: check.rt; octets
-// where many are escaped: pairs.rt; states with a field set: states.rt.
+// where many are escaped: pairs.rt.
 #![tactic(auto)]
 
 ghost use Rattle.std.specs.Prelude.{◌≡◌, not, ◌||◌, ◌≤◌, length};
@@ -14,7 +14,6 @@ use escapes::Escapes;
 mod check;
 mod pairs;
 mod run;
-mod states;
 
 // The running checks (specs/Rule): the sum modulo 256, the register of ISO 3309; any other number keeps the first octet.
 pub const SUM: u8 = 0;
@@ -46,6 +45,15 @@ pub struct State {
     pub check: u16,
 }
 
+impl State {
+    // The same state, field by field: of a copy at once the compiler moves what lies between the fields too, through memory.
+    fn by_fields(self) -> State
+        ensures { result ≡ self }
+    {
+        State { ..self }
+    }
+}
+
 // The answer to a call. Where a segment was closed, `state` is the state in which the flag found it, and the next call starts
 // from `Rule::opened`; else it is the state for the next call.
 #[derive(Clone, Copy)]
@@ -69,7 +77,7 @@ pub fn scan(rule: Rule, state: State, chunk: &[u8], buffer: &mut [u8]) -> Scanne
     ensures value { result ≡ (scanned rule state chunk.now buffer.old).answer }
     ensures buffer_after { buffer.new ≡ (scanned rule state chunk.now buffer.old).buffer }
 {
-    if buffer.len() < rule.cap as usize {
+    if buffer.len() < usize::from(rule.cap) {
         return Scanned {
             closed: false,
             taken: 0,
@@ -100,18 +108,18 @@ impl Rule {
                 match action {
                     Action::Advance(next) => {
                         let t = pairs::take(self, next, &chunk[i..], buffer);
-                        s = states::by_fields(t.state);
+                        s = t.state.by_fields();
                         i += t.taken;
                     }
                     Action::Store(next, at, octet) => {
                         buffer[at] = octet;
-                        s = states::by_fields(next);
+                        s = next.by_fields();
                     }
                     Action::Close => {
                         return Scanned {
                             closed: true,
                             taken: i,
-                            state: states::in_sync(s),
+                            state: State { synced: true, ..s },
                         };
                     }
                 }
@@ -141,13 +149,10 @@ impl Rule {
     fn closed(self, s: State) -> Action
         ensures { result ≡ closed self s }
     {
-        if s.pending {
+        if s.pending || s.count != 0 {
             return Action::Close;
         }
-        if s.count == 0 {
-            return Action::Advance(self.opened());
-        }
-        Action::Close
+        Action::Advance(self.opened())
     }
 
     // An octet of a segment: skipped, the partner of an escape, an escape, or itself.
@@ -161,7 +166,7 @@ impl Rule {
             return self.stored(s, self.bad_after(s.bad, x), self.partner(x));
         }
         if x == self.escapes.escape {
-            return Action::Advance(states::awaiting(s));
+            return Action::Advance(State { pending: true, ..s });
         }
         self.stored(s, s.bad, x)
     }
@@ -172,7 +177,7 @@ impl Rule {
     {
         let n = s.count;
         let next = self.joined(s, bad, x);
-        if n < self.cap as usize {
+        if n < usize::from(self.cap) {
             return Action::Store(next, n, x);
         }
         Action::Advance(next)
@@ -196,7 +201,7 @@ impl Rule {
     fn next(self, n: usize) -> usize
         ensures { result ≡ next (rules_of self) n }
     {
-        let cap = self.cap as usize;
+        let cap = usize::from(self.cap);
         if n < cap {
             return n + 1;
         }
@@ -225,13 +230,7 @@ impl Rule {
         if s.count == 0 {
             return self.well_formed_empty(s);
         }
-        if self.cap as usize + 1 < s.count {
-            return false;
-        }
-        if check::is_check(self.check, s.check) {
-            return s.synced;
-        }
-        false
+        s.count <= usize::from(self.cap) + 1 && check::is_check(self.check, s.check) && s.synced
     }
 
     // The same of a state of no octets.
@@ -239,19 +238,7 @@ impl Rule {
         requires { s.count ≡ 0 }
         ensures { result ≡ not (malformed (rules_of self) (view s)) }
     {
-        if s.bad {
-            return false;
-        }
-        if s.check != check::blank(self.check) {
-            return false;
-        }
-        if s.synced {
-            return true;
-        }
-        if s.pending {
-            return false;
-        }
-        true
+        !s.bad && s.check == check::blank(self.check) && (s.synced || !s.pending)
     }
 
     // Raw octets that are escaped are skipped, but for the flag and the escape.
@@ -260,13 +247,7 @@ impl Rule {
         ensures { result ≡ is_skipped self x }
     {
         let e = self.escapes;
-        if x == e.flag {
-            return false;
-        }
-        if x == e.escape {
-            return false;
-        }
-        e.escapes(x)
+        x != e.flag && x != e.escape && e.escapes(x)
     }
 
     // The octet that one behind the escape stands for.
@@ -274,15 +255,11 @@ impl Rule {
     fn partner(self, y: u8) -> u8
         ensures { result ≡ partner_of self y }
     {
-        let mask = self.mask;
-        if mask != 0 {
-            return y ^ mask;
+        if self.mask != 0 {
+            return y ^ self.mask;
         }
         let e = self.escapes;
-        if e.is_partner(y) {
-            return e.stands_for(y);
-        }
-        y
+        if e.is_partner(y) { e.stands_for(y) } else { y }
     }
 
     // Whether a bad pair came in the segment, where the last stands behind the escape as y.
@@ -290,16 +267,6 @@ impl Rule {
     fn bad_after(self, bad: bool, y: u8) -> bool
         ensures { result ≡ (bad || is_bad_pair self y) }
     {
-        if bad {
-            return true;
-        }
-        if self.strict {
-            let e = self.escapes;
-            if e.is_partner(y) {
-                return false;
-            }
-            return true;
-        }
-        false
+        bad || (self.strict && !self.escapes.is_partner(y))
     }
 }

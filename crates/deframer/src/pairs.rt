@@ -27,20 +27,18 @@ pub(crate) fn take(rule: Rule, s: State, chunk: &[u8], buffer: &mut [u8]) -> Tak
     if rule.check == crate::SUM {
         return Taken { taken: 0, state: s };
     }
-    if s.pending {
-        if is_near(rule.escapes.escape, chunk) {
-            return take_pairs(rule, s, chunk, buffer);
-        }
+    if s.pending && is_near(rule.escapes.escape, chunk) {
+        return take_pairs(rule, s, chunk, buffer);
     }
     Taken { taken: 0, state: s }
 }
 
 // Whether an octet is among the three behind the first.
 fn is_near(x: u8, chunk: &[u8]) -> bool {
-    if chunk.len() < 4 {
-        return false;
+    match chunk {
+        [_, a, b, c, ..] => (*a == x) | (*b == x) | (*c == x),
+        _ => false,
     }
-    (chunk[1] == x) | ((chunk[2] == x) | (chunk[3] == x))
 }
 
 // Octets of the segment, each with the escape behind it, up to one that wants a step of its own.
@@ -59,9 +57,9 @@ fn take_pairs(rule: Rule, state: State, chunk: &[u8], buffer: &mut [u8]) -> Take
         if goes(rule, s, y) {
             let t = took(rule, s, y, buffer);
             i += 1;
-            let waits = is_escape(rule, &chunk[i..]);
-            s = waiting(t, waits);
-            i += one_if(waits);
+            let pending = is_escape(rule, &chunk[i..]);
+            s = State { pending, ..t };
+            i += usize::from(pending);
         } else {
             return Taken { taken: i, state: s };
         }
@@ -73,21 +71,11 @@ fn take_pairs(rule: Rule, state: State, chunk: &[u8], buffer: &mut [u8]) -> Take
 fn goes(rule: Rule, s: State, y: u8) -> bool
     ensures { result ≡ true → Goes «rule» s y }
 {
-    if y == rule.escapes.flag {
-        return false;
-    }
-    if rule.skips(y) {
-        return false;
-    }
-    if s.synced {
-        if s.count < rule.cap as usize {
-            if y == rule.escapes.escape {
-                return s.pending;
-            }
-            return true;
-        }
-    }
-    false
+    y != rule.escapes.flag
+        && !rule.skips(y)
+        && s.synced
+        && s.count < usize::from(rule.cap)
+        && (y != rule.escapes.escape || s.pending)
 }
 
 // Such an octet is stored; the state behind it.
@@ -96,47 +84,20 @@ fn took(rule: Rule, s: State, y: u8, buffer: &mut [u8]) -> State
     ensures value { result ≡ joined «rule» s (s.bad || (s.pending && is_bad_pair «rule» y)) (cond s.pending (partner_of «rule» y) y) }
     ensures buffer_after { buffer.new ≡ set buffer.old s.count (cond s.pending (partner_of «rule» y) y) }
 {
-    let octet = undone(s.pending, rule.partner(y), y);
-    let n = s.count;
-    buffer[n] = octet;
+    let partner = rule.partner(y);
+    let octet = if s.pending { partner } else { y };
+    buffer[s.count] = octet;
     let bad_pair = rule.bad_after(false, y);
     let bad = s.bad | (s.pending & bad_pair);
     rule.joined(s, bad, octet)
-}
-
-// An octet with its escape undone, by whether there is one.
-fn undone(pending: bool, partner: u8, y: u8) -> u8
-    ensures { result ≡ cond pending partner y }
-{
-    if pending { partner } else { y }
 }
 
 // Whether an escape comes next.
 fn is_escape(rule: Rule, rest: &[u8]) -> bool
     ensures { result ≡ escape_first «rule» rest.now }
 {
-    if rest.len() == 0 {
-        return false;
+    match rest.first() {
+        Some(z) => (*z != rule.escapes.flag) & (*z == rule.escapes.escape),
+        None => false,
     }
-    let z = rest[0];
-    (z != rule.escapes.flag) & (z == rule.escapes.escape)
-}
-
-// The state behind an octet that was stored, and behind an escape where one came next.
-fn waiting(s: State, waits: bool) -> State
-    ensures { result ≡ waiting s waits }
-{
-    State {
-        synced: s.synced,
-        pending: waits,
-        bad: s.bad,
-        count: s.count,
-        check: s.check,
-    }
-}
-
-fn one_if(waits: bool) -> usize
-    ensures { result ≡ cond waits 1 0 }
-{
-    if waits { 1 } else { 0 }
 }

@@ -15,23 +15,12 @@ pub(crate) fn run_length(rule: Rule, s: State, octets: &[u8]) -> usize
     ensures upper_bound { result ≤ length octets.now }
     ensures run { 0 < result → Run (rules_of «rule») (view s) (take result octets.now) }
 {
-    if s.pending {
+    if s.pending || !s.synced {
         return 0;
     }
-    if s.synced {
-        let cap = rule.cap as usize;
-        let n = s.count;
-        if cap <= n {
-            return 0;
-        }
-        let room = cap - n;
-        let e = rule.escapes;
-        if octets.len() <= room {
-            return e.plain_length(octets);
-        }
-        return e.plain_length(&octets[..room]);
-    }
-    0
+    let room = usize::from(rule.cap).saturating_sub(s.count);
+    let front = &octets[..room.min(octets.len())];
+    rule.escapes.plain_length(front)
 }
 
 // A run joins the segment. No octets are no run, and change nothing.
@@ -41,15 +30,12 @@ pub(crate) fn with_run(rule: Rule, s: State, octets: &[u8], buffer: &mut [u8]) -
     ensures value { result ≡ with_run «rule» s octets.now }
     ensures buffer_after { buffer.new ≡ sets buffer.old s.count octets.now }
 {
-    if octets.len() == 0 {
+    if octets.is_empty() {
         return s;
     }
-    let n = s.count;
     State {
-        synced: s.synced,
-        pending: s.pending,
-        bad: s.bad,
-        count: n + octets.len(),
-        check: crate::check::put_run(rule.check, n, s.check, octets, buffer),
+        count: s.count + octets.len(),
+        check: crate::check::put_run(rule.check, s.count, s.check, octets, buffer),
+        ..s
     }
 }

@@ -1,4 +1,4 @@
-use Rattle.std.proofs.Common.{◌≡◌, ℕ, ◌+◌, ◌≤◌, true, length, drop, get_or, refl, sym, ap, ◌∙◌, arith}
+use Rattle.std.proofs.Common.{◌≡◌, ℕ, ◌+◌, ◌≤◌, length, drop, get_or, refl, sym, ap, ◌∙◌, arith}
 use Rattle.std.proofs.Math.ListN.{length-set}
 use Rattle.deframer.proofs.Ahead.{ahead_turn, ahead_within}
 use Rattle.deframer.proofs.Runs.{run_fits, run_turn}
@@ -6,7 +6,6 @@ use Rattle.deframer.proofs.Steps.{line_action, step_line, step_index}
 use Rattle.deframer.specs.Rule.{rules_of}
 use Rattle.deframer.specs.Scan.{view, outcome_of, scan_call}
 use Rattle.deframer.specs.declared.Action.{Action}
-use Rattle.deframer.specs.declared.State.{State}
 use Rattle.framing.specs.Rules as rules
 use Rattle.framing.specs.Step.{step}
 use Rattle.line.proofs.Scan.{after_zero, scan_end, scan_advance, scan_store, scan_emit}
@@ -75,8 +74,7 @@ returns-in-Close-clause-value c =
     let at = goal.at.returns-in-Close-clause-value c in
     let u = run_inv at.After-with_run-s in
     let e = u.2 ∙ scan_emit _ (view c.with_run-s.result) _ _ _ c.if-i-chunk.true _ _ (taken_action at.After-step-action _ c.in-Close.is) in
-    ap (λ (s : State). record { closed = true; taken = c.loop-i.i + c.run_length-n.result + 1; state = s }) c.in_sync.ensures
-    ∙ sym (ap (λ (u : Scan (rules.State ℕ) (rules.State ℕ)). (outcome_of u).answer) e)
+    sym (ap (λ (u : Scan (rules.State ℕ) (rules.State ℕ)). (outcome_of u).answer) e)
 
 pub returns-in-Close-clause-buffer_after : goal.returns-in-Close-clause-buffer_after
 unfolding scan_call outcome_of

@@ -1,5 +1,5 @@
 -- Each return by the tests on its way.
-use Rattle.std.proofs.Common.{ℕ, ◌≡◌, ◌+◌, Bool, true, false, not, ◌&&◌, ◌||◌, ltb, eqb, refl, sym, ap, ◌∙◌, arith}
+use Rattle.std.proofs.Common.{ℕ, ◌≡◌, ◌+◌, Bool, true, false, not, ◌&&◌, ◌||◌, ltb, eqb, refl, ap, ◌∙◌, arith}
 use borrow.Author.Tests.{le-ltb, eq-eqb, ne_eqb, eqb-true}
 use Rattle.common.proofs.Bools.{either}
 use Rattle.deframer.specs.Rule.{sum_check, blank_of, is_check_of, rules_of}
@@ -8,6 +8,7 @@ use Rattle.deframer.specs.declared.Rule.{Rule}
 use Rattle.deframer.specs.declared.State.{State}
 use Rattle.framing.specs.Step.{malformed}
 use Rattle.deframer.proofs.Rule.well_formed_empty.Goals as goal
+use Rattle.deframer.proofs.Rule.well_formed_empty.Goals.{then-not-s, else-not-s}
 
 -- the check before any octet can be one
 blank-is_check : (kind : ℕ) → is_check_of kind (blank_of kind) ≡ true
@@ -51,18 +52,28 @@ module _ (r : Rule) (s : State) (none : s.count ≡ 0) where
         alone false = refl
 
 pub returns-then-s : goal.returns-then-s
-returns-then-s c = with_bad_pair c.args.self c.args.s c.requires c.if-s.true
+returns-then-s c =
+    let r = c.args.self in
+    let s = c.args.s in
+    c.if-s.true
+    ∙ elim c.if-not-s.branch [
+      | then-not-s w ↦ in_segment r s c.requires (grind arith) (grind (arith, w.value-is, w.blank.ensures, c.if-s-blank.true)) c.if-s.true
+      | else-not-s w ↦ absurd (grind (arith, w.value-is, c.if-s-blank.true))
+    ]
 
-pub returns-then-s-blank : goal.returns-then-s-blank
-returns-then-s-blank c = with_check c.args.self c.args.s c.requires (λ e. c.if-s-blank.true (e ∙ sym c.blank.ensures))
+pub returns-else-s-blank : goal.returns-else-s-blank
+returns-else-s-blank c =
+    let r = c.args.self in
+    let s = c.args.s in
+    c.if-s-blank.false
+    ∙ elim c.if-not-s.branch
+    [ then-not-s w ↦ with_check r s c.requires (λ e. grind (arith, e, w.value-is, w.blank.ensures, c.if-s-blank.false)) | else-not-s w ↦ with_bad_pair r s c.requires (grind arith) ]
 
-pub returns-then-s-2 : goal.returns-then-s-2
-returns-then-s-2 c = in_segment c.args.self c.args.s c.requires c.if-s.false (c.if-s-blank.false ∙ c.blank.ensures) c.if-s-2.true
-
-pub returns-then-s-3 : goal.returns-then-s-3
-returns-then-s-3 c =
-    sym (ap not c.if-s-3.true) ∙ before_flag c.args.self c.args.s c.requires c.if-s.false (c.if-s-blank.false ∙ c.blank.ensures) c.if-s-2.false
-
-pub returns : goal.returns
-returns c =
-    sym (ap not c.if-s-3.false) ∙ before_flag c.args.self c.args.s c.requires c.if-s.false (c.if-s-blank.false ∙ c.blank.ensures) c.if-s-2.false
+pub returns-else-s : goal.returns-else-s
+returns-else-s c =
+    let r = c.args.self in
+    let s = c.args.s in
+    elim c.if-not-s.branch [
+      | then-not-s w ↦ before_flag r s c.requires (grind arith) (grind (arith, w.value-is, w.blank.ensures, c.if-s-blank.true)) c.if-s.false
+      | else-not-s w ↦ absurd (grind (arith, w.value-is, c.if-s-blank.true))
+    ]

@@ -1,21 +1,22 @@
-use Rattle.std.proofs.Common.{◌-◌, arith}
-use Rattle.deframer.proofs.Runs.{run_found, run_found_within}
+use Rattle.std.proofs.Common.{◌≤◌, length, take, arith, length-take-le}
+use Rattle.common.proofs.Plain.{plain_length-within}
+use Rattle.deframer.proofs.Runs.{run_found_within}
+use Rattle.escapes.specs.Escapes.{is_escaped}
 use Rattle.deframer.proofs.run.run_length.Goals as goal
 
-pub returns-then-octets-room-clause-upper_bound : goal.returns-then-octets-room-clause-upper_bound
-returns-then-octets-room-clause-upper_bound c =
-    (run_found c.args.rule c.args.s c.if-s-2.true c.if-s.false c.args.octets.now _ c.plain_length.ensures (omega arith)).0
-
-pub returns-then-octets-room-clause-run : goal.returns-then-octets-room-clause-run
-returns-then-octets-room-clause-run c =
-    (run_found c.args.rule c.args.s c.if-s-2.true c.if-s.false c.args.octets.now _ c.plain_length.ensures (omega arith)).1
-
-pub returns-then-s-2-clause-upper_bound : goal.returns-then-s-2-clause-upper_bound
-returns-then-s-2-clause-upper_bound c =
-    let a = c.args in
-    (run_found_within a.rule a.s c.if-s-2.true c.if-s.false a.octets.now _ (a.rule.cap - a.s.count) (omega arith) (omega arith) c.plain_length-then-s-2.ensures).0
-
-pub returns-then-s-2-clause-run : goal.returns-then-s-2-clause-run
-returns-then-s-2-clause-run c =
-    let a = c.args in
-    (run_found_within a.rule a.s c.if-s-2.true c.if-s.false a.octets.now _ (a.rule.cap - a.s.count) (omega arith) (omega arith) c.plain_length-then-s-2.ensures).1
+pub returns : goal.returns
+returns c =
+    let r = c.args.rule in
+    let s = c.args.s in
+    let xs = c.args.octets.now in
+    let k = c.min.result in
+    let e = c.plain_length.ensures in
+    let h : k ≤ length xs = omega (arith, c.min.ensures) in
+    let w = plain_length-within (is_escaped r.escapes) (take k xs) in
+    let l = length-take-le k xs h in
+    record {
+      upper_bound = omega (arith, w, l, e, h);
+      run = λ some.
+          (run_found_within r s (grind (arith, c.if-not-s.false)) c.if-s.false xs c.plain_length.result k h
+          (omega (arith, some, w, l, e, c.min.ensures, c.saturating_sub-room.ensures, c.from.ensures)) e).1 some;
+    }
