@@ -4,7 +4,7 @@
 // where many are escaped: pairs.rt.
 #![tactic(auto)]
 
-ghost use Rattle.std.specs.Prelude.{◌≡◌, not, ◌||◌, ◌≤◌, length};
+ghost use Rattle.std.specs.Prelude.{◌≡◌, not, ◌||◌, ◌≤◌, length, true, false, MatchOption};
 ghost use Rattle.framing.specs.Step.{next, malformed};
 ghost use Rattle.deframer.specs.Rule.{is_skipped, partner_of, is_bad_pair, rules_of};
 ghost use Rattle.deframer.specs.Scan.{view, opened, joined, stored, in_segment, closed, step, scanned, scan_call};
@@ -61,6 +61,15 @@ pub struct Scanned {
     pub closed: bool,
     pub taken: usize,
     pub state: State,
+}
+
+impl Scanned {
+    // The state in which the flag found the segment that it closed; none while the segment is open.
+    pub fn segment(self) -> Option<State>
+        ensures { MatchOption result (self.closed ≡ false) (λ s. (self.closed ≡ true) × (s ≡ self.state)) }
+    {
+        if self.closed { Some(self.state) } else { None }
+    }
 }
 
 // What one octet of the line does: it changes the state alone; it stores an octet at an index of the buffer; it closes a segment.

@@ -71,18 +71,17 @@ impl Reader {
         ensures buffer_after { buffer.new ≡ (scan_call self chunk.now buffer.old).buffer }
     {
         let scanned = deframer::scan(rule(), State::from(self), chunk, buffer);
-        let s = scanned.state;
-        if scanned.closed {
+        let Some(segment) = scanned.segment() else {
             return Answer {
-                report: Some(report_on(s)),
+                report: None,
                 taken: scanned.taken,
-                reader: opened(),
+                reader: reader_of(scanned.state),
             };
-        }
+        };
         Answer {
-            report: None,
+            report: Some(report_on(segment)),
             taken: scanned.taken,
-            reader: reader_of(s),
+            reader: opened(),
         }
     }
 }

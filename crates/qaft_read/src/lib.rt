@@ -83,18 +83,17 @@ impl Reader {
     {
         let r = rule(self.level, self.check_kind);
         let scanned = deframer::scan(r, State::from(self), chunk, buffer);
-        let s = scanned.state;
-        if scanned.closed {
+        let Some(segment) = scanned.segment() else {
             return Answer {
-                report: Some(report_on(self.check_kind, s)),
+                report: None,
                 taken: scanned.taken,
-                reader: self.opened(),
+                reader: self.at(scanned.state),
             };
-        }
+        };
         Answer {
-            report: None,
+            report: Some(report_on(self.check_kind, segment)),
             taken: scanned.taken,
-            reader: self.at(s),
+            reader: self.opened(),
         }
     }
 
