@@ -1,11 +1,11 @@
 -- What each function of the writer leaves in the buffer, by what the functions that it calls left there. Assumes nothing.
 use mathlib.Core.Path.{◌≡◌, sym, ap, ap₂, ◌∙◌}
 use mathlib.Core.List.{List, [], ◌∷◌, ◌++◌, append_assoc}
-use Prim.Native.Nat.{ℕ, ◌+◌, ◌/◌, ◌%◌, ◌≤◌}
+use Prim.Native.Nat.{ℕ, ◌+◌, ◌≤◌}
 use native.Mathlib.Omega.{arith}
 use lib.ListN.{length, take, length-append}
 use lib.Seq.{sets}
-use Rattle.fcs.specs.Fcs.{check_sequence, check_octets}
+use Rattle.fcs.specs.Fcs.{check_octets}
 use Rattle.stations.specs.declared.Next.{Next}
 use Rattle.sums.specs.Sum.{header_sum}
 use Rattle.stations.specs.Fields.{fields_at, stations_of, next_offset}
@@ -21,11 +21,6 @@ length_before p x s h = rw (length-append s h) (omega arith)
 pub length-header : (p : ℕ) (x : Next) (s h : List ℕ) → length (header_of p x s h) ≡ header_length (length s) (length h)
 unfolding header_of
 length-header p x s h = rw (length-append (header_before p x s h) (header_sum (header_before p x s h) ∷ []), length_before p x s h) (omega arith)
-
--- the check octets
-pub check_put : (out zs all : List ℕ) (k c : ℕ) → c ≡ check_sequence (take k out) → zs ≡ c % 256 ∷ c / 256 ∷ [] → all ≡ sets out k zs
-    → all ≡ sets out k (check_octets (take k out))
-check_put out zs all k c e z q = q ∙ ap (sets out k) (z ∙ ap (λ (c : ℕ). c % 256 ∷ c / 256 ∷ []) e)
 
 -- the header before its sum, in three pieces
 module _ (p : ℕ) (x : Next) (s h out head o₁ o₂ o₃ : List ℕ) (b a : ℕ)
