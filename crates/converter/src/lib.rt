@@ -58,8 +58,36 @@ impl Gist {
     {
         match self {
             Gist::Frame(n) => n,
-            Gist::Skipped => 0,
-            Gist::Other => 0,
+            Gist::Skipped | Gist::Other => 0,
+        }
+    }
+}
+
+impl From<qaft_report::Report> for Gist {
+    ghost from_gives = { λ report gist. gist ≡ gist_of_qaft report };
+
+    fn from(report: qaft_report::Report) -> Gist {
+        match report {
+            qaft_report::Report::Frame(n) => Gist::Frame(n),
+            qaft_report::Report::Aborted
+            | qaft_report::Report::Long
+            | qaft_report::Report::Short
+            | qaft_report::Report::BadCheck
+            | qaft_report::Report::BadPair => Gist::Other,
+        }
+    }
+}
+
+impl From<kiss_report::Report> for Gist {
+    ghost from_gives = { λ report gist. gist ≡ gist_of_kiss report };
+
+    fn from(report: kiss_report::Report) -> Gist {
+        match report {
+            kiss_report::Report::Frame(n) => Gist::Frame(n),
+            kiss_report::Report::BadEscape
+            | kiss_report::Report::Short
+            | kiss_report::Report::Long => Gist::Other,
+            kiss_report::Report::Skipped => Gist::Skipped,
         }
     }
 }
@@ -72,21 +100,16 @@ impl Tally {
         match gist {
             Gist::Frame(_) => Tally {
                 at_flag: true,
-                frames: std::num::wrapping_add_u64(self.frames, 1),
-                skipped: self.skipped,
-                others: self.others,
+                frames: self.frames.wrapping_add(1),
+                ..self
             },
             Gist::Skipped => Tally {
-                at_flag: self.at_flag,
-                frames: self.frames,
-                skipped: std::num::wrapping_add_u64(self.skipped, 1),
-                others: self.others,
+                skipped: self.skipped.wrapping_add(1),
+                ..self
             },
             Gist::Other => Tally {
-                at_flag: self.at_flag,
-                frames: self.frames,
-                skipped: self.skipped,
-                others: std::num::wrapping_add_u64(self.others, 1),
+                others: self.others.wrapping_add(1),
+                ..self
             },
         }
     }
@@ -153,9 +176,9 @@ impl Converter {
         ensures { result ≡ gist_of self.to_kiss self.level s }
     {
         if self.to_kiss {
-            return gist_of_qaft(qaft_read::report_on(qaft::SUM, s));
+            return Gist::from(qaft_read::report_on(qaft::SUM, s));
         }
-        gist_of_kiss(kiss_read::report_on(s))
+        Gist::from(kiss_read::report_on(s))
     }
 
     // Puts the frame of n octets, which stand in `buffer`, at the front of `out`, which has room for every frame; its length. No octets:
@@ -180,10 +203,9 @@ impl Converter {
         ensures { result ≡ later self state tally }
     {
         Converter {
-            to_kiss: self.to_kiss,
-            level: self.level,
             state,
             tally,
+            ..self
         }
     }
 }
@@ -244,29 +266,4 @@ fn source_rule(to_kiss: bool, level: u8) -> Rule
         return qaft_read::rule(level, qaft::SUM);
     }
     kiss_read::rule()
-}
-
-fn gist_of_qaft(report: qaft_report::Report) -> Gist
-    ensures { result ≡ gist_of_qaft report }
-{
-    match report {
-        qaft_report::Report::Frame(n) => Gist::Frame(n),
-        qaft_report::Report::Aborted => Gist::Other,
-        qaft_report::Report::Long => Gist::Other,
-        qaft_report::Report::Short => Gist::Other,
-        qaft_report::Report::BadCheck => Gist::Other,
-        qaft_report::Report::BadPair => Gist::Other,
-    }
-}
-
-fn gist_of_kiss(report: kiss_report::Report) -> Gist
-    ensures { result ≡ gist_of_kiss report }
-{
-    match report {
-        kiss_report::Report::Frame(n) => Gist::Frame(n),
-        kiss_report::Report::BadEscape => Gist::Other,
-        kiss_report::Report::Short => Gist::Other,
-        kiss_report::Report::Long => Gist::Other,
-        kiss_report::Report::Skipped => Gist::Skipped,
-    }
 }

@@ -4,6 +4,7 @@ ghost use Rattle.lister.specs.Entries.{entry_of_qaft, entry_of_kiss, entry_lengt
 
 use listing::Entry;
 
+// Functions, and no `From`: neither `Entry` nor the two reports are declared in this crate.
 pub(crate) fn of_qaft(report: qaft_report::Report) -> Entry
     ensures { result ≡ entry_of_qaft report }
 {
@@ -33,8 +34,5 @@ pub(crate) fn of_kiss(report: kiss_report::Report) -> Entry
 pub(crate) fn length(entry: Entry) -> usize
     ensures { result ≡ entry_length entry }
 {
-    let Entry::Frame(n) = entry else {
-        return 0;
-    };
-    n
+    if let Entry::Frame(n) = entry { n } else { 0 }
 }

@@ -90,19 +90,16 @@ impl Lister {
             return self.refused(qaft::BUFFER_TOO_SMALL);
         }
         let p = put_lines(self, chunk, buffer, out);
-        let taken = p.taken;
-        let state = p.state;
-        let counts = self.counts;
+        let read = &chunk[..p.taken];
         Listed {
             number: qaft::DONE,
-            taken,
+            taken: p.taken,
             length: p.behind,
             lister: Lister {
-                kiss: self.kiss,
-                level: self.level,
-                state,
+                state: p.state,
                 reports: p.reports,
-                counts: counts.add(source_flag(self.kiss), MOST_OCTETS, &chunk[..taken]),
+                counts: self.counts.add(source_flag(self.kiss), MOST_OCTETS, read),
+                ..self
             },
         }
     }
@@ -147,8 +144,7 @@ impl Lister {
     {
         let from = data_from(self.kiss);
         let end = from + entry::length(entry);
-        let number = std::num::wrapping_add_u64(reports, 1);
-        listing::put_report(number, entry, &buffer[from..end], out, at)
+        listing::put_report(reports.wrapping_add(1), entry, &buffer[from..end], out, at)
     }
 }
 
@@ -171,13 +167,12 @@ fn put_lines(l: Lister, chunk: &[u8], buffer: &mut [u8], out: &mut [u8]) -> Prog
         if scanned.closed {
             let entry = l.entry(scanned.state);
             at = l.put(n, entry, buffer, out, at);
-            n = std::num::wrapping_add_u64(n, 1);
+            n = n.wrapping_add(1);
             state = rule.opened();
         } else {
-            let open = scanned.state;
             return Progress {
                 taken: i,
-                state: open,
+                state: scanned.state,
                 reports: n,
                 behind: at,
             };

@@ -96,7 +96,7 @@ loop-at-preserved c =
       turn_within _ _ _ _ _ _ turn,
       k.scan-scanned.auto.buffer ∙ t.invariant.1,
       ap length p.out_after ∙ length-sets t.out t.at (line_of k.args.l.kiss t.n c.entry-entry.result k.scan-scanned.new.buffer) ∙ t.invariant.2,
-      turn-goes _ _ _ _ _ _ turn c.if-scanned.true _ c.entry-entry.ensures _ _ _ _ z c.wrapping_add_u64-n.ensures.value p.out_after p.value,
+      turn-goes _ _ _ _ _ _ turn c.if-scanned.true _ c.entry-entry.ensures _ _ _ _ z refl p.out_after p.value,
     )
 
 pub returns-else-scanned : goal.returns-else-scanned

@@ -37,8 +37,8 @@ returns-then-buffer-lt-MAX_SEGMENT c =
       out_after = sym (ap (λ (k : Call). k.out) e);
     }
 
-pub slice_bounds-add-end : goal.slice_bounds-add-end
-slice_bounds-add-end c =
+pub slice_bounds-read-end : goal.slice_bounds-read-end
+slice_bounds-read-end c =
     let a = c.args in
     taken_part a.self a.chunk.now a.buffer.now a.out.now _ c.put_lines-p.ensures.value
 

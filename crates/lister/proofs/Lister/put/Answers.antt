@@ -1,5 +1,5 @@
 -- `lister::Lister::put` meets its contract: the octets that are shown, and their line. Assumes nothing.
-use Rattle.std.proofs.Common.{arith}
+use Rattle.std.proofs.Common.{refl, arith}
 use Rattle.lister.proofs.Lines.{from_small, put_line}
 use Rattle.lister.proofs.Lister.put.Goals as goal
 
@@ -18,5 +18,5 @@ returns c =
     let s = c in
     let a = s.args in
     let p = c.put_report.ensures in
-    let both = put_line a.self.kiss a.reports a.entry a.buffer.now a.out.now a.at s.requires.0 s.requires.1 s.requires.2 _ _ c.data_from-from.ensures c.length.ensures _ c.wrapping_add_u64-number.ensures.value _ _ p.value p.out_after in
+    let both = put_line a.self.kiss a.reports a.entry a.buffer.now a.out.now a.at s.requires.0 s.requires.1 s.requires.2 _ _ c.data_from-from.ensures c.length.ensures _ refl _ _ p.value p.out_after in
     record { value = both.0; out_after = both.1 }
