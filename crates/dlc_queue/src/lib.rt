@@ -17,12 +17,11 @@ pub struct Payload {
 }
 
 impl Payload {
-    // The octets of a payload that is not too long.
+    // Its octets: all of the slot's where the length is too large.
     pub fn as_slice(&self) -> &[u8]
-        requires { self.now.len ≤ max_payload }
         ensures { result.now ≡ octets_of self.now }
     {
-        &self.octets[..self.len]
+        &self.octets[..self.len.min(MAX_PAYLOAD)]
     }
 }
 

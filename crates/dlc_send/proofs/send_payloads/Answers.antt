@@ -11,9 +11,6 @@ use Rattle.std.proofs.lemmas.List.{length-take}
 use Rattle.dlc_send.proofs.Sending.{next, reply_next, counts_next, sent, short_payloads}
 use Rattle.dlc_send.proofs.send_payloads.Goals as goal
 
-pub as_slice-requires : goal.as_slice-requires
-as_slice-requires c = short_at_lem c.args.payloads.now c.loop-i.i c.requires.1.0
-
 pub put_data-length-requires : goal.put_data-length-requires
 put_data-length-requires c =
     let p : Payload = get_or c.args.payloads.now c.loop-i.i none in
