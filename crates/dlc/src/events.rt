@@ -16,14 +16,17 @@ use dlc_table::{DONE, Refusal, State};
 
 impl Link {
     // The upper layer starts the link.
-    pub fn start(self, reply: &mut [u8]) -> Outcome
+    pub fn start(mut self, reply: &mut [u8]) -> Outcome
         ensures { StartCall view self reply.old reply.new result.link result.answer }
     {
         if let Err(refusal) = self.check(reply.len()) {
             return self.refused(refusal);
         }
         match self.state {
-            State::Idle => self.in_state(State::Reset).done(),
+            State::Idle => {
+                self.state = State::Reset;
+                self.done()
+            }
             State::Reset | State::Data | State::Wait => self.refused(Refusal::NoEntry),
         }
     }

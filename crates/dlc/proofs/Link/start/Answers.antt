@@ -1,5 +1,5 @@
 -- `Link::start`: the shared refusals, and then the row of the table by the state. Assumes nothing.
-use Rattle.std.proofs.Common.{refl, ap, ◌∙◌, length}
+use Rattle.std.proofs.Common.{refl, ◌∙◌, length}
 use Rattle.dlc_table.specs.Answers.{done, no_entry}
 use Rattle.dlc_table.specs.Refused.{number_of}
 use Rattle.dlc_table.specs.declared.State.TheVariants.{Reset}
@@ -24,8 +24,8 @@ returns-in-Idle c =
     let e = c.in-Idle.is in
     let room = length c.args.reply.now in
     let w = call_ok slots (view l) room done c.in_default.ensures refl in
-    let v = ap view c.in_state.ensures ∙ view-in_state l w Reset (idle_fits l e (parts l w).state) in
-    done_meets _ l c.in_state.result (in_state Reset (view l)) _ _ (start_step_lem slots (view l) room done c.in_default.ensures refl _ e) v c.done.ensures
+    let v = view-in_state l w Reset (idle_fits l e (parts l w).state) in
+    done_meets _ l _ (in_state Reset (view l)) _ _ (start_step_lem slots (view l) room done c.in_default.ensures refl _ e) v c.done.ensures
 
 pub returns-in-Reset : goal.returns-in-Reset
 returns-in-Reset c =
