@@ -72,16 +72,13 @@ impl Counter {
             return self.refused(qaft::BUFFER_TOO_SMALL);
         }
         let p = count_reports(self, chunk, buffer);
-        let state = p.state;
-        let found = p.found;
-        let octets = self.octets;
         Counted {
             number: qaft::DONE,
             counter: Counter {
-                level: self.level,
-                state,
-                octets: octets.add(self.level, chunk),
-                found,
+                state: p.state,
+                octets: self.octets.add(self.level, chunk),
+                found: p.found,
+                ..self
             },
         }
     }
@@ -90,9 +87,7 @@ impl Counter {
     pub fn counts(self) -> Counts
         ensures { result ≡ counts_in self }
     {
-        let octets = self.octets;
-        let kept = octets.kept;
-        let skipped = octets.skipped;
+        let RawOctets { kept, skipped } = self.octets;
         let f = self.found;
         Counts {
             number: qaft::DONE,
@@ -147,8 +142,10 @@ fn count_reports(c: Counter, chunk: &[u8], buffer: &mut [u8]) -> Progress
             );
             state = rule.opened();
         } else {
-            let open = scanned.state;
-            return Progress { state: open, found };
+            return Progress {
+                state: scanned.state,
+                found,
+            };
         }
     }
     Progress { state, found }
