@@ -31,8 +31,8 @@ impl Link {
         }
     }
 
-    // The timer runs out.
-    pub fn timer(self, reply: &mut [u8]) -> Outcome
+    // The timer runs out. An event may change the link that it is handed (`mut self`), which this one leaves as it is.
+    pub fn timer(mut self, reply: &mut [u8]) -> Outcome
         ensures { TimerCall view self reply.old reply.new result.link result.answer }
     {
         if let Err(refusal) = self.check(reply.len()) {
@@ -56,7 +56,7 @@ impl Link {
     }
 
     // A packet arrives.
-    pub fn arrival(self, packet: &[u8], reply: &mut [u8]) -> Outcome
+    pub fn arrival(mut self, packet: &[u8], reply: &mut [u8]) -> Outcome
         ensures { ArrivalCall view self packet.now reply.old reply.new result.link result.answer }
     {
         if let Err(refusal) = self.check(reply.len()) {
