@@ -69,8 +69,8 @@ pub fn write_frame(
         octets: data,
         tail: &check[..size],
     };
-    let Some(length) = framer::write(e, frame, out) else {
+    let Some(written) = framer::write(e, frame, out) else {
         return Err(Refusal::OutTooSmall);
     };
-    Ok(length)
+    Ok(written)
 }

@@ -23,7 +23,7 @@ unfit c =
     (check_lent _ _ _ _ c.check_octets-check.ensures c.check_size-size.ensures) _ _ w.value w.out_after refl
 
 fit : (c : In-Some)
-    → (◌≡◌ {A = Written} (record { number = done; length = c.in-Some.length }) (write_frame c.args.level c.args.check_kind c.args.at_flag c.args.data.now c.args.out.now).answer) × (c.write.new.out ≡ (write_frame c.args.level c.args.check_kind c.args.at_flag c.args.data.now c.args.out.now).buffer)
+    → (◌≡◌ {A = Written} (record { number = done; length = c.in-Some.written }) (write_frame c.args.level c.args.check_kind c.args.at_flag c.args.data.now c.args.out.now).answer) × (c.write.new.out ≡ (write_frame c.args.level c.args.check_kind c.args.at_flag c.args.data.now c.args.out.now).buffer)
 fit c =
     let w = c.in-Some.ensures in
     write-fit _ _ _ _ _ c.if-level-gt-MAX_LEVEL.false c.if-check_kind-gt-MAX_KIND.false c.if-data-eq0.false c.if-data-gt-MAX_DATA.false _ c.escapes-e.ensures _
