@@ -15,7 +15,7 @@ mod room;
 
 // What a frame holds, `head`, `octets` and `tail` one after another, of which the first and the last have a few octets. `at_flag`: the
 // line stands at a flag already, so that the frame needs none to open it. The escapes are handed over beside it: where two framings
-// share the writer, the compiler took them out of it by shifts, and a short frame took a third more instructions.
+// share the writer, the compiler took them out of it by shifts, and a short frame took some thirty instructions more.
 #[derive(Clone, Copy)]
 pub struct Frame<'a> {
     pub at_flag: bool,
