@@ -68,6 +68,7 @@ fn judged(frame: &[u8]) -> Result<Receiver, Refusal>
 
 // The station whose field begins at a place. Behind the field stand the closing 0 and the header sum, before the data offset: so the field
 // is looked for in the octets up to two before it.
+#[tactic(auto, using(stations::proofs::Fields::id_within))]
 fn station_at(frame: &[u8], place: usize) -> Result<Receiver, Refusal>
     requires { (min_header ≤ offset frame.now) × (offset frame.now + 2 ≤ length frame.now) × (place ≡ pointer frame.now) × (first_next ≤ place) × (place ≤ offset frame.now - 2) }
     ensures { told result ≡ guarded (field_refusals frame.now) Refused (Station (field_part frame.now)) }

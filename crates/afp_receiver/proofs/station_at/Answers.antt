@@ -10,20 +10,6 @@ returns-in_default c =
     field_bad c.args.frame.now (λ z. omega arith) k c.args.place (omega arith) (omega arith) (omega arith) (omega arith)
     (told_other (take k c.args.frame.now) c.args.place c.field_at.result c.field_at.ensures c.in_default.not-Id)
 
-pub slice_bounds-next_station_sum-count : goal.slice_bounds-next_station_sum-count
-slice_bounds-next_station_sum-count c =
-    let k = c.from-closing.result - 2 in
-    let id = told_id (take k c.args.frame.now) c.args.place c.field_at.result c.field_at.ensures c.in-Id.end c.in-Id.is in
-    let w = end_in c.args.frame.now (λ z. omega arith) k c.args.place (omega arith) (omega arith) (omega arith) (omega arith) c.in-Id.end id in
-    omega arith
-
-pub slice_bounds-next_station_sum-start : goal.slice_bounds-next_station_sum-start
-slice_bounds-next_station_sum-start c =
-    let k = c.from-closing.result - 2 in
-    let id = told_id (take k c.args.frame.now) c.args.place c.field_at.result c.field_at.ensures c.in-Id.end c.in-Id.is in
-    let w = end_in c.args.frame.now (λ z. omega arith) k c.args.place (omega arith) (omega arith) (omega arith) (omega arith) c.in-Id.end id in
-    search rules
-
 pub slice_bounds-next_station_sum-end : goal.slice_bounds-next_station_sum-end
 slice_bounds-next_station_sum-end c =
     let k = c.from-closing.result - 2 in
@@ -37,13 +23,6 @@ returns-then-frame-next_station_sum c =
     let id = told_id (take k c.args.frame.now) c.args.place c.field_at.result c.field_at.ensures c.in-Id.end c.in-Id.is in
     sum-wrong c.args.frame.now (λ z. omega arith) k c.args.place (omega arith) (omega arith) (omega arith) (omega arith) c.in-Id.end id
     c.next_station_sum.result c.next_station_sum.ensures c.if-frame-next_station_sum.true
-
-pub overflow_sub-result : goal.overflow_sub-result
-overflow_sub-result c =
-    let k = c.from-closing.result - 2 in
-    let id = told_id (take k c.args.frame.now) c.args.place c.field_at.result c.field_at.ensures c.in-Id.end c.in-Id.is in
-    let w = end_in c.args.frame.now (λ z. omega arith) k c.args.place (omega arith) (omega arith) (omega arith) (omega arith) c.in-Id.end id in
-    omega arith
 
 pub returns : goal.returns
 returns c =
