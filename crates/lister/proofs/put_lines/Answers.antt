@@ -1,15 +1,17 @@
 -- `lister::put_lines` meets its contract. The loop's invariant: what is left of the chunk gives what the whole gives, i octets on. Assumes nothing.
-use Rattle.std.proofs.Common.{◌≡◌, ◌+◌, ◌-◌, ◌≤◌, length, take, drop, sym, refl, ap, ◌∙◌, subst, arith}
+use Rattle.std.proofs.Common.{ℕ, Bool, List, ◌≡◌, ◌+◌, ◌-◌, ◌≤◌, length, take, drop, sym, refl, ap, ◌∙◌, subst, arith}
 use lib.Seq.{length-sets}
-use Rattle.deframer.proofs.TextTurns.{Turn, start_inv, turn_full, turn_within, turn_ends, turn_takes, turn-goes}
+use Rattle.deframer.proofs.TextTurns.{Turn, onwards, start_inv, turn_full, turn_within, turn_ends, turn_takes, turn-goes}
 use Rattle.deframer.specs.Scan.{opened, scanned}
 use Rattle.deframer.specs.declared.Rule.{Rule}
+use Rattle.deframer.specs.declared.Scanned.{Scanned}
+use Rattle.deframer.specs.declared.State as declared
 use Rattle.framing.specs.Rules.{State}
-use Rattle.line.specs.Gather.{Gathered}
+use Rattle.line.specs.Gather.{Gathered, later}
 use Rattle.line.specs.Texts.{Texts}
 use Rattle.lister.proofs.Rules.{cap_is, rule_rules, verdict_within}
 use Rattle.lister.specs.Entries.{source_rules, rule_of, entry_length, line_of, counted}
-use Rattle.lister.specs.Lines.{gathered, progress_of}
+use Rattle.lister.specs.Lines.{progress_of}
 use Rattle.listing.specs.Line.{max_line}
 use Rattle.listing.specs.declared.Entry.{Entry}
 use Rattle.qaft.specs.Limits.{max_data, max_segment}
@@ -18,6 +20,22 @@ use Rattle.lister.proofs.put_lines.Goals as goal
 -- the result, and the buffers after it
 ended : {whole : Gathered (State _) (Texts _)} → (g : Gathered (State _) (Texts _)) → whole ≡ g → (progress_of g ≡ progress_of whole) × (g.buffer ≡ whole.buffer) × (g.made.out ≡ whole.made.out)
 ended g e = (sym (ap progress_of e), sym (ap (λ (g : Gathered (State _) (Texts _)). g.buffer) e), sym (ap (λ (g : Gathered (State _) (Texts _)). g.made.out) e))
+
+-- a turn of the shared loop, at octet i of the chunk and index at of the out buffer, under the rule that the code was given
+module _ (kiss : Bool) (level : ℕ) {rule : Rule} (e : rule ≡ rule_of kiss level) where
+  turn_of : {whole : Gathered (State ℕ) (Texts ℕ)} {s : declared.State} {k : ℕ} {chunk m out : List ℕ} {i at : ℕ} {u : Scanned} {m' : List ℕ}
+      → i ≤ length chunk → max_segment ≤ length m → at + max_line ≤ length out
+      → whole ≡ later i (onwards (line_of kiss) counted max_line (rule_of kiss level) (source_rules kiss level) (rule_rules kiss level) s (drop i chunk) m (record { tally = k; out = out; behind = at }))
+      → u ≡ (scanned rule s (take (length chunk - i) (drop i chunk)) m).answer → m' ≡ (scanned rule s (take (length chunk - i) (drop i chunk)) m).buffer
+      → Turn (line_of kiss) counted max_line (rule_of kiss level) (source_rules kiss level) (rule_rules kiss level) whole s k chunk m out i at u m'
+  turn_of {s = s} {chunk = chunk} {m = m} {i = i} within segment room inv answer buffer = record {
+    within = within;
+    segment = omega (arith, segment, cap_is kiss level);
+    room = room;
+    inv = inv;
+    answer = answer ∙ ap (λ (x : Rule). (scanned x s (take (length chunk - i) (drop i chunk)) m).answer) e;
+    buffer = buffer ∙ ap (λ (x : Rule). (scanned x s (take (length chunk - i) (drop i chunk)) m).buffer) e;
+  }
 
 pub loop-at-init : goal.loop-at-init
 loop-at-init c =
@@ -30,18 +48,8 @@ pub overflow_add-i : goal.overflow_add-i
 overflow_add-i c =
     let room : c.loop-at.at + max_line ≤ length c.loop-at.out = (omega (arith, c.loop-at-test.true, c.loop-at.invariant.2, c.requires.0)) in
     let segment : max_segment ≤ length c.loop-at.buffer = (omega (arith, c.loop-at.invariant.1, c.requires.1)) in
-    let turn : let t = c.loop-at in let a = c.args in let kiss = a.l.kiss in Turn (line_of kiss) counted max_line (rule_of kiss a.l.level) (source_rules kiss a.l.level) (rule_rules kiss a.l.level) (gathered a.l a.chunk.now a.buffer.now a.out.now) t.state t.n a.chunk.now t.buffer t.out t.i t.at c.scan-scanned.result c.scan-scanned.new.buffer = (let t = c.loop-at in
-    let a = c.args in
-    let r = c.source_rule-rule.ensures in
-    let rest = take (length a.chunk.now - t.i) (drop t.i a.chunk.now) in
-    record {
-      within = t.invariant.0;
-      segment = omega (arith, segment, cap_is a.l.kiss a.l.level);
-      room = room;
-      inv = t.invariant.3;
-      answer = c.scan-scanned.ensures.value ∙ ap (λ (x : Rule). (scanned x t.state rest t.buffer).answer) r;
-      buffer = c.scan-scanned.ensures.buffer_after ∙ ap (λ (x : Rule). (scanned x t.state rest t.buffer).buffer) r;
-    }) in
+    let e = c.scan-scanned.ensures in
+    let turn = turn_of c.args.l.kiss c.args.l.level c.source_rule-rule.ensures c.loop-at.invariant.0 segment room c.loop-at.invariant.3 e.value e.buffer_after in
     omega (arith, turn_within _ _ _ _ _ _ turn)
 
 pub put-at-requires : goal.put-at-requires
@@ -58,18 +66,8 @@ pub loop-at-smaller : goal.loop-at-smaller
 loop-at-smaller c =
     let room : c.loop-at.at + max_line ≤ length c.loop-at.out = (omega (arith, c.loop-at-test.true, c.loop-at.invariant.2, c.requires.0)) in
     let segment : max_segment ≤ length c.loop-at.buffer = (omega (arith, c.loop-at.invariant.1, c.requires.1)) in
-    let turn : let t = c.loop-at in let a = c.args in let kiss = a.l.kiss in Turn (line_of kiss) counted max_line (rule_of kiss a.l.level) (source_rules kiss a.l.level) (rule_rules kiss a.l.level) (gathered a.l a.chunk.now a.buffer.now a.out.now) t.state t.n a.chunk.now t.buffer t.out t.i t.at c.scan-scanned.result c.scan-scanned.new.buffer = (let t = c.loop-at in
-    let a = c.args in
-    let r = c.source_rule-rule.ensures in
-    let rest = take (length a.chunk.now - t.i) (drop t.i a.chunk.now) in
-    record {
-      within = t.invariant.0;
-      segment = omega (arith, segment, cap_is a.l.kiss a.l.level);
-      room = room;
-      inv = t.invariant.3;
-      answer = c.scan-scanned.ensures.value ∙ ap (λ (x : Rule). (scanned x t.state rest t.buffer).answer) r;
-      buffer = c.scan-scanned.ensures.buffer_after ∙ ap (λ (x : Rule). (scanned x t.state rest t.buffer).buffer) r;
-    }) in
+    let e = c.scan-scanned.ensures in
+    let turn = turn_of c.args.l.kiss c.args.l.level c.source_rule-rule.ensures c.loop-at.invariant.0 segment room c.loop-at.invariant.3 e.value e.buffer_after in
     let k = c in
     omega (arith, turn_within _ _ _ _ _ _ turn, turn_takes _ _ _ _ _ _ turn c.if-scanned.true)
 
@@ -77,18 +75,8 @@ pub loop-at-preserved : goal.loop-at-preserved
 loop-at-preserved c =
     let room : c.loop-at.at + max_line ≤ length c.loop-at.out = (omega (arith, c.loop-at-test.true, c.loop-at.invariant.2, c.requires.0)) in
     let segment : max_segment ≤ length c.loop-at.buffer = (omega (arith, c.loop-at.invariant.1, c.requires.1)) in
-    let turn : let t = c.loop-at in let a = c.args in let kiss = a.l.kiss in Turn (line_of kiss) counted max_line (rule_of kiss a.l.level) (source_rules kiss a.l.level) (rule_rules kiss a.l.level) (gathered a.l a.chunk.now a.buffer.now a.out.now) t.state t.n a.chunk.now t.buffer t.out t.i t.at c.scan-scanned.result c.scan-scanned.new.buffer = (let t = c.loop-at in
-    let a = c.args in
-    let r = c.source_rule-rule.ensures in
-    let rest = take (length a.chunk.now - t.i) (drop t.i a.chunk.now) in
-    record {
-      within = t.invariant.0;
-      segment = omega (arith, segment, cap_is a.l.kiss a.l.level);
-      room = room;
-      inv = t.invariant.3;
-      answer = c.scan-scanned.ensures.value ∙ ap (λ (x : Rule). (scanned x t.state rest t.buffer).answer) r;
-      buffer = c.scan-scanned.ensures.buffer_after ∙ ap (λ (x : Rule). (scanned x t.state rest t.buffer).buffer) r;
-    }) in
+    let e = c.scan-scanned.ensures in
+    let turn = turn_of c.args.l.kiss c.args.l.level c.source_rule-rule.ensures c.loop-at.invariant.0 segment room c.loop-at.invariant.3 e.value e.buffer_after in
     let k = c in
     let t = k.loop-at in
     let p = c.put-at.ensures in
@@ -103,24 +91,10 @@ pub returns-else-scanned : goal.returns-else-scanned
 returns-else-scanned c =
     let room : c.loop-at.at + max_line ≤ length c.loop-at.out = (omega (arith, c.loop-at-test.true, c.loop-at.invariant.2, c.requires.0)) in
     let segment : max_segment ≤ length c.loop-at.buffer = (omega (arith, c.loop-at.invariant.1, c.requires.1)) in
-    let turn : let t = c.loop-at in let a = c.args in let kiss = a.l.kiss in Turn (line_of kiss) counted max_line (rule_of kiss a.l.level) (source_rules kiss a.l.level) (rule_rules kiss a.l.level) (gathered a.l a.chunk.now a.buffer.now a.out.now) t.state t.n a.chunk.now t.buffer t.out t.i t.at c.scan-scanned.result c.scan-scanned.new.buffer = (let t = c.loop-at in
-    let a = c.args in
-    let r = c.source_rule-rule.ensures in
-    let rest = take (length a.chunk.now - t.i) (drop t.i a.chunk.now) in
-    record {
-      within = t.invariant.0;
-      segment = omega (arith, segment, cap_is a.l.kiss a.l.level);
-      room = room;
-      inv = t.invariant.3;
-      answer = c.scan-scanned.ensures.value ∙ ap (λ (x : Rule). (scanned x t.state rest t.buffer).answer) r;
-      buffer = c.scan-scanned.ensures.buffer_after ∙ ap (λ (x : Rule). (scanned x t.state rest t.buffer).buffer) r;
-    }) in
-    let e = ended _ (turn_ends _ _ _ _ _ _ turn c.if-scanned.false) in
-    record {
-      value = e.0;
-      buffer_after = e.1;
-      out_after = e.2;
-    }
+    let e = c.scan-scanned.ensures in
+    let turn = turn_of c.args.l.kiss c.args.l.level c.source_rule-rule.ensures c.loop-at.invariant.0 segment room c.loop-at.invariant.3 e.value e.buffer_after in
+    let all = ended _ (turn_ends _ _ _ _ _ _ turn c.if-scanned.false) in
+    record { value = all.0; buffer_after = all.1; out_after = all.2 }
 
 pub returns : goal.returns
 returns c =
