@@ -12,12 +12,13 @@ use Rattle.common.proofs.Buffer.{sets-++}
 use Rattle.conversion_laws.proofs.Calls.{cap_is, texts_short}
 use Rattle.conversion_laws.proofs.Theorems.{texts_of_the_capture, tally_of_the_capture}
 use Rattle.conversion_laws.specs.Frames.{source_counts, conversion_of}
-use Rattle.converter.proofs.Refusals.{convert_gathered}
+use Rattle.converter.proofs.Refusals.{convert_gathered, number_done, numbered}
 use Rattle.converter.proofs.Rules.{lawful}
+use Rattle.converter.specs.Answer.{Converted, refusal_number}
 use Rattle.converter.specs.Convert.{fresh_converter, counted, report_text, gathered, Call, call_of, convert}
 use Rattle.converter.specs.Gist.{source_rules}
-use Rattle.converter.specs.declared.Converted.{Converted}
 use Rattle.converter.specs.declared.Converter.{Converter}
+use Rattle.converter.specs.declared.Refusal.{Refusal}
 use Rattle.converter.specs.declared.Tally.{Tally}
 use Rattle.deframer.specs.Scan.{view}
 use Rattle.framing.proofs.Formed.{Fit, fresh_formed, step_keeps}
@@ -75,6 +76,10 @@ module _ (c : Converter) (xs m scratch : List ℕ) (r : Ready c m) (room : max_f
 
   pub turned : Turned c xs m scratch (convert c xs m scratch)
   turned = subst (Turned c xs m scratch) (sym (convert_gathered c xs m scratch r.level room (omega (arith, cap_is c.to_kiss c.level, r.fit.room)))) gathered_turned
+
+  -- nor is it refused
+  pub none_refused : (e : Refusal) → record { number = refusal_number e; taken = 0; length = 0; converter = c } ≡ (convert c xs m scratch).answer → ⊥
+  none_refused e q = numbered e (ap (λ (a : Converted). a.number) q ∙ number_done c xs m scratch r.level room (omega (arith, cap_is c.to_kiss c.level, r.fit.room)))
 
 -- ---- at the start and at the end
 pub fresh_ready : (to_kiss : Bool) (level : ℕ) (m : List ℕ) → level ≤ max_level → max_segment ≤ length m → Ready (fresh_converter to_kiss level) m

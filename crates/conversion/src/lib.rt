@@ -78,7 +78,11 @@ fn fits(to_kiss: bool, level: u8, capture: &[u8], room: usize) -> bool
     let mut i = 0;
     let mut left = room;
     while i < capture.len() {
-        let a = c.convert(&capture[i..], &mut buffer, &mut scratch);
+        // a refusal, which the level was looked at for and these buffers are too long for
+        let a = match c.convert(&capture[i..], &mut buffer, &mut scratch) {
+            Ok(a) => a,
+            Err(_) => return false,
+        };
         i += a.taken;
         if left < a.length {
             return false;
@@ -101,7 +105,11 @@ fn put(to_kiss: bool, level: u8, capture: &[u8], out: &mut [u8]) -> Conversion
     let mut i = 0;
     let mut at = 0;
     while i < capture.len() {
-        let a = c.convert(&capture[i..], &mut buffer, &mut scratch);
+        let a = match c.convert(&capture[i..], &mut buffer, &mut scratch) {
+            Ok(a) => a,
+            // as in `fits`, none comes
+            Err(refusal) => return refused(refusal.number()),
+        };
         i += a.taken;
         at = put_front(&scratch, a.length, out, at);
         c = a.converter;

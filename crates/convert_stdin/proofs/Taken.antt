@@ -5,9 +5,9 @@ use mathlib.Core.Path.{◌≡◌, ap}
 use native.Mathlib.Omega.{arith}
 use lib.ListN.{length, take, drop, length-take, length-drop}
 use Rattle.common.proofs.Refusals.{guarded_both}
+use Rattle.converter.specs.Answer.{Converted}
 use Rattle.converter.specs.Convert.{counted, report_text, Call, call_of, refusal, refusals, convert}
 use Rattle.converter.specs.Gist.{source_rules}
-use Rattle.converter.specs.declared.Converted.{Converted}
 use Rattle.converter.specs.declared.Converter.{Converter}
 use Rattle.deframer.specs.Scan.{view}
 use Rattle.framing.specs.Step.{step}

@@ -63,7 +63,10 @@ fn convert_chunk(
     let mut converter = before;
     let mut i = 0;
     while i < chunk.len() {
-        let converted = converter.convert(&chunk[i..], buffer, out);
+        // a refusal, which the level was looked at for and these buffers are too long for
+        let Ok(converted) = converter.convert(&chunk[i..], buffer, out) else {
+            break;
+        };
         converter = converted.converter;
         i += converted.taken;
         if !write(&mut rt.stdout(), out, converted.length) {
@@ -74,7 +77,7 @@ fn convert_chunk(
             );
             return None;
         }
-        // a refusal, which these buffers are too long for
+        // a call that took nothing would be made again for ever
         if converted.taken == 0 {
             break;
         }

@@ -7,8 +7,8 @@
 use Rattle.std.specs.Prelude.{ℕ, Bool, true, false, cond, List, [], ◌∷◌, length, nat_lt}
 use Rattle.counter.specs.Counted.{next}
 use Rattle.common.specs.Refusals.{Refusal, guarded}
+use Rattle.converter.specs.Answer.{Converted}
 use Rattle.converter.specs.Gist.{source_rules, text_of}
-use Rattle.converter.specs.declared.Converted.{Converted}
 use Rattle.converter.specs.declared.Converter.{Converter}
 use Rattle.converter.specs.declared.Gist.{Gist}
 use Rattle.converter.specs.declared.Gist.TheVariants.{Frame, Skipped, Other}

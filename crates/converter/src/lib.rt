@@ -3,9 +3,10 @@
 // of all calls are the line of the capture's frames is a theorem of the crate conversion_laws.
 #![tactic(auto)]
 
-ghost use Rattle.std.specs.Prelude.{◌≡◌, ◌≤◌, length};
+ghost use Rattle.std.specs.Prelude.{◌≡◌, ◌≤◌, length, Ok};
 ghost use Rattle.common.specs.Buffer.{with_front};
 ghost use Rattle.qaft.specs.Limits.{max_level, max_data, max_segment, max_frame};
+ghost use Rattle.converter.specs.Answer.{refusal_number, answered};
 ghost use Rattle.converter.specs.Gist.{gist_of_qaft, gist_of_kiss, gist_length, gist_of, rule_of, text_by};
 ghost use Rattle.converter.specs.Convert.{counted, fresh_converter, too_small, later, call_of, gathered, convert};
 
@@ -41,14 +42,35 @@ pub struct Converter {
     pub tally: Tally,
 }
 
-// The answer to a call: a refusal's number or 0, the octets of the chunk taken, the octets put at the front of the out buffer,
-// and what goes into the next call.
+// The answer to a call: the octets of the chunk taken, the octets put at the front of the out buffer, and what goes into the next call.
 #[derive(Clone, Copy)]
 pub struct Converted {
-    pub number: u8,
     pub taken: usize,
     pub length: usize,
     pub converter: Converter,
+}
+
+// Why a call is refused. An out buffer that is too small has another number to KISS than to QAFT.
+#[derive(Clone, Copy, Debug, PartialEq, Eq)]
+pub enum Refusal {
+    BadLevel,
+    KissOutTooSmall,
+    QaftOutTooSmall,
+    BufferTooSmall,
+}
+
+impl Refusal {
+    // The number given back for it.
+    pub fn number(self) -> u8
+        ensures { result ≡ refusal_number self }
+    {
+        match self {
+            Refusal::BadLevel => qaft::BAD_LEVEL,
+            Refusal::KissOutTooSmall => kiss::OUT_TOO_SMALL,
+            Refusal::QaftOutTooSmall => qaft::OUT_TOO_SMALL,
+            Refusal::BufferTooSmall => qaft::BUFFER_TOO_SMALL,
+        }
+    }
 }
 
 impl Gist {
@@ -140,35 +162,29 @@ impl Converter {
     }
 
     // Converts a chunk, up to its end or as far as `out` has room for every frame: hand the rest, from `taken` on, to the next
-    // call. Refusals: 6; 64 to KISS and 3 to QAFT where `out` is shorter than `MAX_FRAME`; 4 where `buffer`, which holds a segment
-    // from call to call, is shorter than `qaft::MAX_SEGMENT`. Nothing is then taken or put.
-    pub fn convert(self, chunk: &[u8], buffer: &mut [u8], out: &mut [u8]) -> Converted
-        ensures value { result ≡ (convert self chunk.now buffer.old out.old).answer }
+    // call. `out` is too small where it is shorter than `MAX_FRAME`; `buffer`, which holds a segment from call to call, where it is shorter
+    // than `qaft::MAX_SEGMENT`. A refusal takes and puts nothing, and the caller still has the converter.
+    #[tactic(auto, unfolding(crate::specs::Convert::convert, crate::specs::Convert::refusals, crate::specs::Convert::refusal))]
+    pub fn convert(
+        self,
+        chunk: &[u8],
+        buffer: &mut [u8],
+        out: &mut [u8],
+    ) -> Result<Converted, Refusal>
+        ensures value { answered self result ≡ (convert self chunk.now buffer.old out.old).answer }
         ensures buffer_after { buffer.new ≡ (convert self chunk.now buffer.old out.old).buffer }
         ensures out_after { out.new ≡ (convert self chunk.now buffer.old out.old).out }
     {
         if qaft::MAX_LEVEL < self.level {
-            return self.refused(qaft::BAD_LEVEL);
+            return Err(Refusal::BadLevel);
         }
         if out.len() < MAX_FRAME {
-            return self.refused(too_small(self.to_kiss));
+            return Err(too_small(self.to_kiss));
         }
         if buffer.len() < qaft::MAX_SEGMENT {
-            return self.refused(qaft::BUFFER_TOO_SMALL);
+            return Err(Refusal::BufferTooSmall);
         }
-        put_frames(self, chunk, buffer, out)
-    }
-
-    // Nothing is taken, and nothing changes.
-    fn refused(self, number: u8) -> Converted
-        ensures { result ≡ record { number = number; taken = 0; length = 0; converter = self } }
-    {
-        Converted {
-            number,
-            taken: 0,
-            length: 0,
-            converter: self,
-        }
+        Ok(put_frames(self, chunk, buffer, out))
     }
 
     // What a closed segment is to the conversion, by the state in which the flag found it.
@@ -213,7 +229,7 @@ impl Converter {
 // Report after report, while there is room for every frame.
 fn put_frames(c: Converter, chunk: &[u8], buffer: &mut [u8], out: &mut [u8]) -> Converted
     requires { (c.level ≤ max_level) × (max_frame ≤ length out.old) × (max_segment ≤ length buffer.old) }
-    ensures value { result ≡ (call_of c (gathered c chunk.now buffer.old out.old)).answer }
+    ensures value { answered c (Ok result) ≡ (call_of c (gathered c chunk.now buffer.old out.old)).answer }
     ensures buffer_after { buffer.new ≡ (call_of c (gathered c chunk.now buffer.old out.old)).buffer }
     ensures out_after { out.new ≡ (call_of c (gathered c chunk.now buffer.old out.old)).out }
 {
@@ -226,39 +242,36 @@ fn put_frames(c: Converter, chunk: &[u8], buffer: &mut [u8], out: &mut [u8]) -> 
     while at <= last {
         let scanned = deframer::scan(rule, state, &chunk[i..], buffer);
         i += scanned.taken;
-        if scanned.closed {
-            let gist = c.gist(scanned.state);
-            at += c.put(tally.at_flag, gist.length(), buffer, &mut out[at..]);
-            tally = tally.with(gist);
-            state = rule.opened();
-        } else {
+        let Some(segment) = scanned.segment() else {
             return Converted {
-                number: qaft::DONE,
                 taken: i,
                 length: at,
                 converter: c.later(scanned.state, tally),
             };
-        }
+        };
+        let gist = c.gist(segment);
+        at += c.put(tally.at_flag, gist.length(), buffer, &mut out[at..]);
+        tally = tally.with(gist);
+        state = rule.opened();
     }
     Converted {
-        number: qaft::DONE,
         taken: i,
         length: at,
         converter: c.later(state, tally),
     }
 }
 
-// The number of an out buffer that is too small.
-fn too_small(to_kiss: bool) -> u8
-    ensures { result ≡ too_small to_kiss }
+// Why an out buffer that is too small is refused.
+fn too_small(to_kiss: bool) -> Refusal
+    ensures { refusal_number result ≡ too_small to_kiss }
 {
     if to_kiss {
-        return kiss::OUT_TOO_SMALL;
+        return Refusal::KissOutTooSmall;
     }
-    qaft::OUT_TOO_SMALL
+    Refusal::QaftOutTooSmall
 }
 
-// How the deframer is to read the capture.
+// How the deframer is to read the capture. The lister has a choice like it, for no crate that both stand on knows both readers.
 fn source_rule(to_kiss: bool, level: u8) -> Rule
     ensures { result ≡ rule_of to_kiss level }
 {

@@ -1,6 +1,6 @@
 -- The sheet that the program holds: what a file changes of it, and its text. Cited by `with_file` and `put_lines`. Assumes nothing.
 use Rattle.std.specs.Prelude.{ℕ, suc, ◌*◌, List, [], ◌∷◌, ◌++◌, ◌≡◌}
-use Rattle.std.specs.Prelude.{Option, Some, None}
+use Rattle.std.specs.Prelude.{Option, Some}
 use Rattle.sheet.specs.Limits.{lines}
 use Rattle.sheet.specs.declared.Tally.{Tally}
 use Rattle.sheet_line.specs.Line.{line_text, line_room}

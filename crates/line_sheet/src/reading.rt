@@ -49,11 +49,10 @@ fn count_chunk(
     chunk: &[u8],
     buffer: &mut [u8],
 ) -> Option<Counter> {
-    let counted = counter.count(chunk, buffer);
     // a refusal, which the level was looked at for and the buffer is too long for
-    if counted.number != qaft::DONE {
+    let Ok(later) = counter.count(chunk, buffer) else {
         say::line(rt, name, b"refused", b"");
         return None;
-    }
-    Some(counted.counter)
+    };
+    Some(later)
 }

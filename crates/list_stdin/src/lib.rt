@@ -58,11 +58,14 @@ fn list_chunk(
     let mut lister = before;
     let mut i = 0;
     while i < chunk.len() {
-        let listed = lister.list(&chunk[i..], buffer, out);
+        // a refusal, which the level was looked at for and these buffers are too long for
+        let Ok(listed) = lister.list(&chunk[i..], buffer, out) else {
+            break;
+        };
         lister = listed.lister;
         i += listed.taken;
         write(rt, out, listed.length);
-        // a refusal, which these buffers are too long for
+        // a call that took nothing would be made again for ever
         if listed.taken == 0 {
             break;
         }

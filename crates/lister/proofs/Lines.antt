@@ -1,5 +1,5 @@
--- The line of a report fits where there is room for every line, and is what `put_report` puts. The cases of `list`. Assumes nothing.
-use Rattle.std.proofs.Common.{◌≡◌, ℕ, ◌+◌, ◌-◌, ◌<◌, ◌≤◌, Bool, true, false, List, length, take, drop, sym, ap, ◌∙◌, ap₂, arith, length-drop, length-take, length-take-le, le-ltb, lt-ltb}
+-- The line of a report fits where there is room for every line, and is what `put_report` puts. A call of `list` that is not refused. Assumes nothing.
+use Rattle.std.proofs.Common.{◌≡◌, ℕ, ◌+◌, ◌-◌, ◌≤◌, Bool, true, false, List, length, take, drop, sym, ap, ◌∙◌, ap₂, arith, length-drop, length-take, length-take-le, le-ltb}
 use lib.Seq.{sets}
 use Rattle.capture.specs.Octets.{count_all}
 use Rattle.capture.specs.declared.Octets.{Octets}
@@ -11,15 +11,15 @@ use Rattle.framing.specs.Reports.{shown}
 use Rattle.framing.specs.Step.{step}
 use Rattle.line.proofs.Gather.{gather_partly}
 use Rattle.line.specs.Texts.{has_room, with_text}
+use Rattle.lister.specs.Answer.{Listed}
 use Rattle.lister.specs.Entries.{flag_of, data_from, entry_length, source_rules, line_of, counted}
 use Rattle.lister.specs.Lines.{most_octets, gathered, progress_of, later, Call, call_of, refusal, refusals, list}
-use Rattle.lister.specs.declared.Listed.{Listed}
 use Rattle.lister.specs.declared.Lister.{Lister}
 use Rattle.lister.specs.declared.Progress.{Progress}
 use Rattle.listing.proofs.Line.{length-report_line}
 use Rattle.listing.specs.Line.{report_line, line_room, max_line}
 use Rattle.listing.specs.declared.Entry.{Entry}
-use Rattle.qaft.specs.Answers.{done, out_too_small, buffer_too_small, bad_level}
+use Rattle.qaft.specs.Answers.{done}
 use Rattle.qaft.specs.Limits.{max_level, max_data, max_segment}
 use Rattle.text.proofs.Room.{text_room}
 use Rattle.text.specs.Room.{text_into, text_end}
@@ -58,22 +58,10 @@ module _ (kiss : Bool) (k : ℕ) (p : Entry) (m out : List ℕ) (at : ℕ) (few 
       let t = text_room (line_room (length octets)) (report_line k' p octets) out at fits in
       (e ∙ t.0 ∙ ap (λ (l : List ℕ). at + length l) line_is, d ∙ t.1 ∙ ap (sets out at) line_is)
 
--- ---- the cases of `list`: each refusal, and a call that is not refused
+-- ---- a call of `list` that is not refused
 module _ (l : Lister) (xs m out : List ℕ) where
-  pub list-bad_level : max_level < l.level → list l xs m out ≡ refusal l m out bad_level
-  unfolding list refusals
-  list-bad_level h = simp (lt-ltb _ _ h)
-
   module _ (h : l.level ≤ max_level) where
-    pub list-out_too_small : length out < max_line → list l xs m out ≡ refusal l m out out_too_small
-    unfolding list refusals
-    list-out_too_small k = simp (le-ltb _ _ h, lt-ltb _ _ k)
-
     module _ (k : max_line ≤ length out) where
-      pub list-buffer_too_small : length m < max_segment → list l xs m out ≡ refusal l m out buffer_too_small
-      unfolding list refusals
-      list-buffer_too_small r = simp (le-ltb _ _ h, le-ltb _ _ k, lt-ltb _ _ r)
-
       pub list_gathered : max_segment ≤ length m → list l xs m out ≡ call_of l xs (gathered l xs m out)
       unfolding list refusals
       list_gathered r = simp (le-ltb _ _ h, le-ltb _ _ k, le-ltb _ _ r)

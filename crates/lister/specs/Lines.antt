@@ -11,8 +11,8 @@ use Rattle.framing.specs.Rules.{State}
 use Rattle.framing.specs.Step.{step}
 use Rattle.line.specs.Gather.{Gathered}
 use Rattle.line.specs.Texts.{Texts, text_call}
+use Rattle.lister.specs.Answer.{Listed}
 use Rattle.lister.specs.Entries.{flag_of, source_rules, line_of, counted}
-use Rattle.lister.specs.declared.Listed.{Listed}
 use Rattle.lister.specs.declared.Lister.{Lister}
 use Rattle.lister.specs.declared.Progress.{Progress}
 use Rattle.listing.specs.Line.{max_line}

@@ -10,12 +10,14 @@ ghost use Rattle.qaft.specs.Limits.{max_data, max_segment};
 ghost use Rattle.listing.specs.Line.{max_line};
 ghost use Rattle.listing_ends.specs.Ends.{short_line};
 ghost use Rattle.text.specs.Room.{text_into, text_end};
+ghost use Rattle.lister.specs.Answer.{answered};
 ghost use Rattle.lister.specs.Entries.{flag_of, data_from, entry_length, rule_of, entry_of, line_of};
 ghost use Rattle.lister.specs.Lines.{fresh_lister, gathered, progress_of, list, last_line};
 
 use capture::Octets;
 use deframer::{Rule, State};
 use listing::Entry;
+use qaft::Refusal;
 
 mod entry;
 
@@ -33,11 +35,9 @@ pub struct Lister {
     pub counts: Octets,
 }
 
-// The answer to a call: a refusal's number or 0, the octets of the chunk taken, the octets put at the front of the out
-// buffer, and what goes into the next call.
+// The answer to a call: the octets of the chunk taken, the octets put at the front of the out buffer, and what goes into the next call.
 #[derive(Clone, Copy)]
 pub struct Listed {
-    pub number: u8,
     pub taken: usize,
     pub length: usize,
     pub lister: Lister,
@@ -73,35 +73,35 @@ impl Lister {
     }
 
     // Lists a chunk, up to its end or as far as `out` has room for every line: hand the rest, from `taken` on, to the next
-    // call. Refusals: 6; 3 where `out` is shorter than `listing::MAX_LINE`; 4 where `buffer`, which holds a segment from call to
-    // call, is shorter than `qaft::MAX_SEGMENT`. Nothing is then taken or put.
-    pub fn list(self, chunk: &[u8], buffer: &mut [u8], out: &mut [u8]) -> Listed
-        ensures value { result ≡ (list self chunk.now buffer.old out.old).answer }
+    // call. `out` is too small where it is shorter than `listing::MAX_LINE`; `buffer`, which holds a segment from call to call, where it is
+    // shorter than `qaft::MAX_SEGMENT`. A refusal takes and puts nothing, and the caller still has the lister.
+    #[tactic(auto, unfolding(crate::specs::Lines::list, crate::specs::Lines::refusals, crate::specs::Lines::refusal))]
+    pub fn list(self, chunk: &[u8], buffer: &mut [u8], out: &mut [u8]) -> Result<Listed, Refusal>
+        ensures value { answered self result ≡ (list self chunk.now buffer.old out.old).answer }
         ensures buffer_after { buffer.new ≡ (list self chunk.now buffer.old out.old).buffer }
         ensures out_after { out.new ≡ (list self chunk.now buffer.old out.old).out }
     {
         if qaft::MAX_LEVEL < self.level {
-            return self.refused(qaft::BAD_LEVEL);
+            return Err(Refusal::BadLevel);
         }
         if out.len() < listing::MAX_LINE {
-            return self.refused(qaft::OUT_TOO_SMALL);
+            return Err(Refusal::OutTooSmall);
         }
         if buffer.len() < qaft::MAX_SEGMENT {
-            return self.refused(qaft::BUFFER_TOO_SMALL);
+            return Err(Refusal::BufferTooSmall);
         }
-        let p = put_lines(self, chunk, buffer, out);
-        let read = &chunk[..p.taken];
-        Listed {
-            number: qaft::DONE,
-            taken: p.taken,
-            length: p.behind,
+        let progress = put_lines(self, chunk, buffer, out);
+        let read = &chunk[..progress.taken];
+        Ok(Listed {
+            taken: progress.taken,
+            length: progress.behind,
             lister: Lister {
-                state: p.state,
-                reports: p.reports,
+                state: progress.state,
+                reports: progress.reports,
                 counts: self.counts.add(source_flag(self.kiss), MOST_OCTETS, read),
                 ..self
             },
-        }
+        })
     }
 
     // Puts the last line at the front of `out`; its length. Where `out` has no room for such a line, nothing: 0.
@@ -111,18 +111,6 @@ impl Lister {
     {
         let c = self.counts;
         listing_ends::put_end(self.reports, c.before, c.after, out, 0)
-    }
-
-    // Nothing is taken, and nothing changes.
-    fn refused(self, number: u8) -> Listed
-        ensures { result ≡ record { number = number; taken = 0; length = 0; lister = self } }
-    {
-        Listed {
-            number,
-            taken: 0,
-            length: 0,
-            lister: self,
-        }
     }
 
     // What a closed segment is listed as, by the state in which the flag found it.
@@ -164,19 +152,17 @@ fn put_lines(l: Lister, chunk: &[u8], buffer: &mut [u8], out: &mut [u8]) -> Prog
     while at <= last {
         let scanned = deframer::scan(rule, state, &chunk[i..], buffer);
         i += scanned.taken;
-        if scanned.closed {
-            let entry = l.entry(scanned.state);
-            at = l.put(n, entry, buffer, out, at);
-            n = n.wrapping_add(1);
-            state = rule.opened();
-        } else {
+        let Some(segment) = scanned.segment() else {
             return Progress {
                 taken: i,
                 state: scanned.state,
                 reports: n,
                 behind: at,
             };
-        }
+        };
+        at = l.put(n, l.entry(segment), buffer, out, at);
+        n = n.wrapping_add(1);
+        state = rule.opened();
     }
     Progress {
         taken: i,

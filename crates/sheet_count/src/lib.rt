@@ -12,14 +12,11 @@ use sheet_counter::Counter;
 pub fn count(level: u8, capture: &[u8]) -> Counts
     ensures { result ≡ count_call level capture.now }
 {
-    if qaft::MAX_LEVEL < level {
-        return refused(qaft::BAD_LEVEL);
-    }
     let mut buffer = [0u8; qaft::MAX_SEGMENT];
-    let fresh = Counter::new(level);
-    let counted = fresh.count(capture, &mut buffer);
-    let counter = counted.counter;
-    counter.counts()
+    match Counter::new(level).count(capture, &mut buffer) {
+        Ok(counter) => counter.counts(),
+        Err(refusal) => refused(refusal.number()),
+    }
 }
 
 fn refused(number: u8) -> Counts

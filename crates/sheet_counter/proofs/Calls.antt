@@ -4,30 +4,21 @@ use mathlib.Core.List.{List}
 use mathlib.Core.Path.{◌≡◌, sym, ap, ◌∙◌}
 use borrow.Author.Tests.{lt-ltb, le-ltb}
 use lib.ListN.{length}
-use Rattle.qaft.specs.Answers.{done, buffer_too_small, bad_level}
+use Rattle.qaft.specs.Answers.{done, bad_level}
 use Rattle.qaft.specs.Limits.{max_level, max_segment}
+use Rattle.sheet_counter.specs.Answer.{Counted}
 use Rattle.sheet_counter.specs.Count.{gathered, progress_of, later, Call, call_of, refusal, refusals, count}
-use Rattle.sheet_counter.specs.declared.Counted.{Counted}
 use Rattle.sheet_counter.specs.declared.Counter.{Counter}
 use Rattle.sheet_counter.specs.declared.Progress.{Progress}
 use Rattle.sheet_octets.specs.Raw.{raw_all}
 use Rattle.sheet_octets.specs.declared.RawOctets.{RawOctets}
 
 module _ (c : Counter) (xs m : List ℕ) where
-  -- as the code goes: a is the answer that a refusal gives
-  pub count_refused : (n : ℕ) (a : Counted) → a ≡ record { number = n; counter = c } → count c xs m ≡ refusal c m n → (a ≡ (count c xs m).answer) × (m ≡ (count c xs m).buffer)
-  unfolding refusal
-  count_refused n a ae e = (ae ∙ sym (ap (λ (r : Call). r.answer) e), sym (ap (λ (r : Call). r.buffer) e))
-
   pub count-bad_level : max_level < c.level → count c xs m ≡ refusal c m bad_level
   unfolding count refusals
   count-bad_level h = simp (lt-ltb _ _ h)
 
   module _ (h : c.level ≤ max_level) where
-    pub count-buffer_too_small : length m < max_segment → count c xs m ≡ refusal c m buffer_too_small
-    unfolding count refusals
-    count-buffer_too_small k = simp (le-ltb _ _ h, lt-ltb _ _ k)
-
     pub count_gathered : max_segment ≤ length m → count c xs m ≡ call_of c xs (gathered c xs m)
     unfolding count refusals
     count_gathered k = simp (le-ltb _ _ h, le-ltb _ _ k)

@@ -18,7 +18,7 @@ use Rattle.qaft_report.specs.declared.Report.{Report}
 use Rattle.qaft_rules.specs.Rules.{rules}
 use Rattle.sheet.specs.Limits.{too_large}
 use Rattle.sheet.specs.declared.Counts.{Counts}
-use Rattle.sheet_counter.specs.declared.Counted.{Counted}
+use Rattle.sheet_counter.specs.Answer.{Counted}
 use Rattle.sheet_counter.specs.declared.Counter.{Counter}
 use Rattle.sheet_counter.specs.declared.Progress.{Progress}
 use Rattle.sheet_found.specs.Found.{fresh_found, found_with}

@@ -4,10 +4,12 @@
 
 ghost use Rattle.std.specs.Prelude.{◌≡◌, ◌≤◌, length};
 ghost use Rattle.qaft.specs.Limits.{max_segment};
+ghost use Rattle.sheet_counter.specs.Answer.{answered};
 ghost use Rattle.sheet_counter.specs.Count.{fresh_counter, gathered, progress_of, count, counts_in, with_report};
 
 use capture::Octets;
 use deframer::State;
+use qaft::Refusal;
 use qaft_report::Report;
 use reports::Shows;
 use sheet::Counts;
@@ -21,13 +23,6 @@ pub struct Counter {
     pub state: State,
     pub octets: RawOctets,
     pub found: Found,
-}
-
-// The answer to a call: a refusal's number or 0, and what goes into the next call.
-#[derive(Clone, Copy)]
-pub struct Counted {
-    pub number: u8,
-    pub counter: Counter,
 }
 
 // What the loop over a chunk's reports comes to.
@@ -59,28 +54,26 @@ impl Counter {
         }
     }
 
-    // Counts a chunk to its end. Refusals: 6; 4 where `buffer`, which holds a segment from call to call, is shorter than
-    // `qaft::MAX_SEGMENT`. Nothing is then counted.
-    pub fn count(self, chunk: &[u8], buffer: &mut [u8]) -> Counted
-        ensures value { result ≡ (count self chunk.now buffer.old).answer }
+    // Counts a chunk to its end, and gives what goes into the next call. `buffer` holds a segment from call to call: it is too small where
+    // it is shorter than `qaft::MAX_SEGMENT`. A refusal counts nothing, and the caller still has the counter.
+    #[tactic(auto, unfolding(crate::specs::Count::count, crate::specs::Count::refusals, crate::specs::Count::refusal))]
+    pub fn count(self, chunk: &[u8], buffer: &mut [u8]) -> Result<Self, Refusal>
+        ensures value { answered self result ≡ (count self chunk.now buffer.old).answer }
         ensures buffer_after { buffer.new ≡ (count self chunk.now buffer.old).buffer }
     {
         if qaft::MAX_LEVEL < self.level {
-            return self.refused(qaft::BAD_LEVEL);
+            return Err(Refusal::BadLevel);
         }
         if buffer.len() < qaft::MAX_SEGMENT {
-            return self.refused(qaft::BUFFER_TOO_SMALL);
+            return Err(Refusal::BufferTooSmall);
         }
-        let p = count_reports(self, chunk, buffer);
-        Counted {
-            number: qaft::DONE,
-            counter: Counter {
-                state: p.state,
-                octets: self.octets.add(self.level, chunk),
-                found: p.found,
-                ..self
-            },
-        }
+        let progress = count_reports(self, chunk, buffer);
+        Ok(Counter {
+            state: progress.state,
+            octets: self.octets.add(self.level, chunk),
+            found: progress.found,
+            ..self
+        })
     }
 
     // What the chunks so far add to a line. Before the first flag and after the last every octet counts.
@@ -109,16 +102,6 @@ impl Counter {
             ],
         }
     }
-
-    // Nothing is counted, and nothing changes.
-    fn refused(self, number: u8) -> Counted
-        ensures { result ≡ record { number = number; counter = self } }
-    {
-        Counted {
-            number,
-            counter: self,
-        }
-    }
 }
 
 // Report after report, to the end of the chunk.
@@ -134,19 +117,14 @@ fn count_reports(c: Counter, chunk: &[u8], buffer: &mut [u8]) -> Progress
     while i < chunk.len() {
         let scanned = deframer::scan(rule, state, &chunk[i..], buffer);
         i += scanned.taken;
-        if scanned.closed {
-            found = with_report(
-                found,
-                qaft_read::report_on(qaft::SUM, scanned.state),
-                buffer,
-            );
-            state = rule.opened();
-        } else {
+        let Some(segment) = scanned.segment() else {
             return Progress {
                 state: scanned.state,
                 found,
             };
-        }
+        };
+        found = with_report(found, qaft_read::report_on(qaft::SUM, segment), buffer);
+        state = rule.opened();
     }
     Progress { state, found }
 }

@@ -2,7 +2,7 @@
 use Rattle.std.proofs.Common.{ℕ, ◌+◌, ◌≤◌, ◌<◌, List, ◌≡◌, refl, sym, ap, ap₂, ◌∙◌, subst, add-zero, arith, length, take, drop, replicate}
 use lib.Seq.{sets, length-sets}
 use Rattle.common.proofs.Buffer.{sets-front}
-use Rattle.conversion.proofs.Turns.{rest_text, rest_tally, Ready, fresh_ready, fresh_text, fresh_tally_lem, none_left, turn_ready, turn_few, turn_within, turn_takes, turn_tally, left-length, put_on}
+use Rattle.conversion.proofs.Turns.{rest_text, rest_tally, Ready, fresh_ready, fresh_text, fresh_tally_lem, none_left, turn_ready, turn_few, turn_within, turn_takes, turn_tally, left-length, put_on, none_refused}
 use Rattle.conversion.specs.Whole.{converted}
 use Rattle.conversion_laws.specs.Frames.{conversion_of}
 use Rattle.converter.specs.Convert.{fresh_converter}
@@ -38,9 +38,9 @@ slice_bounds-convert-end-in-loop-i-2 c = sym c.loop-i.invariant.2
 
 pub overflow_add-i : goal.overflow_add-i
 overflow_add-i c =
-    let within : c.loop-i.i + c.convert-a.result.taken ≤ length c.args.capture.now = (let l = c.loop-i in
+    let within : c.loop-i.i + c.in-Ok.a.taken ≤ length c.args.capture.now = (let l = c.loop-i in
     let a = c.args in
-    let e = c.convert-a.ensures in
+    let e = c.in-Ok.ensures in
     turn_within l.c a.capture.now l.buffer l.scratch l.i l.invariant.0 _ refl l.invariant.3 (omega (arith, l.invariant.2)) _ _ _ e.value e.buffer_after e.out_after) in
     omega (arith, within, c.well_formed.1.1.0.0)
 
@@ -49,42 +49,47 @@ put_front-at-requires c =
     let k = c in
     let l = k.loop-i in
     let a = k.args in
-    let e = k.convert-a.ensures in
+    let e = k.in-Ok.ensures in
     (turn_few l.c a.capture.now l.buffer l.scratch l.i l.invariant.0 _ refl l.invariant.3 (omega (arith, l.invariant.2)) _ _ _ e.value e.buffer_after e.out_after, omega (arith, left-length l.c a.capture.now l.buffer l.scratch l.i l.invariant.0 _ refl l.invariant.3 (omega (arith, l.invariant.2)) _ _ _ e.value e.buffer_after e.out_after, l.invariant.4, l.invariant.5, k.requires.1))
 
 pub loop-i-smaller : goal.loop-i-smaller
 loop-i-smaller c =
-    let within : c.loop-i.i + c.convert-a.result.taken ≤ length c.args.capture.now = (let l = c.loop-i in
+    let within : c.loop-i.i + c.in-Ok.a.taken ≤ length c.args.capture.now = (let l = c.loop-i in
     let a = c.args in
-    let e = c.convert-a.ensures in
+    let e = c.in-Ok.ensures in
     turn_within l.c a.capture.now l.buffer l.scratch l.i l.invariant.0 _ refl l.invariant.3 (omega (arith, l.invariant.2)) _ _ _ e.value e.buffer_after e.out_after) in
-    let takes : 0 < c.convert-a.result.taken = (let l = c.loop-i in
+    let takes : 0 < c.in-Ok.a.taken = (let l = c.loop-i in
     let a = c.args in
-    let e = c.convert-a.ensures in
+    let e = c.in-Ok.ensures in
     turn_takes l.c a.capture.now l.buffer l.scratch l.i l.invariant.0 _ refl l.invariant.3 (omega (arith, l.invariant.2)) _ _ _ e.value e.buffer_after e.out_after c.loop-i-test.true) in
     omega (arith, within, takes)
 
 pub loop-i-preserved : goal.loop-i-preserved
 loop-i-preserved c =
-    let within : c.loop-i.i + c.convert-a.result.taken ≤ length c.args.capture.now = (let l = c.loop-i in
+    let within : c.loop-i.i + c.in-Ok.a.taken ≤ length c.args.capture.now = (let l = c.loop-i in
     let a = c.args in
-    let e = c.convert-a.ensures in
+    let e = c.in-Ok.ensures in
     turn_within l.c a.capture.now l.buffer l.scratch l.i l.invariant.0 _ refl l.invariant.3 (omega (arith, l.invariant.2)) _ _ _ e.value e.buffer_after e.out_after) in
     let k = c in
     let l = k.loop-i in
     let a = k.args in
-    let e = k.convert-a.ensures in
+    let e = k.in-Ok.ensures in
     let q = c.put_front-at.ensures in
     let at' = q.value in (
       within,
-      k.convert-a.auto.buffer ∙ l.invariant.1,
-      k.convert-a.auto.out ∙ l.invariant.2,
+      k.convert.auto.buffer ∙ l.invariant.1,
+      k.convert.auto.out ∙ l.invariant.2,
       turn_ready l.c a.capture.now l.buffer l.scratch l.i l.invariant.0 _ refl l.invariant.3 (omega (arith, l.invariant.2)) _ _ _ e.value e.buffer_after e.out_after,
-      ap length q.out_after ∙ length-sets l.out l.at (take k.convert-a.result.length k.convert-a.new.out) ∙ l.invariant.4,
+      ap length q.out_after ∙ length-sets l.out l.at (take k.in-Ok.a.length k.convert.new.out) ∙ l.invariant.4,
       omega (arith, at', left-length l.c a.capture.now l.buffer l.scratch l.i l.invariant.0 _ refl l.invariant.3 (omega (arith, l.invariant.2)) _ _ _ e.value e.buffer_after e.out_after, l.invariant.5),
-      ap₂ (λ (o : List ℕ) (n : ℕ). sets o n (rest_text k.convert-a.result.converter (drop (l.i + k.convert-a.result.taken) a.capture.now) k.convert-a.new.buffer)) q.out_after at' ∙ sym (put_on l.c a.capture.now l.buffer l.scratch l.i l.invariant.0 _ refl l.invariant.3 (omega (arith, l.invariant.2)) _ _ _ e.value e.buffer_after e.out_after l.out l.at) ∙ l.invariant.6,
+      ap₂ (λ (o : List ℕ) (n : ℕ). sets o n (rest_text k.in-Ok.a.converter (drop (l.i + k.in-Ok.a.taken) a.capture.now) k.convert.new.buffer)) q.out_after at' ∙ sym (put_on l.c a.capture.now l.buffer l.scratch l.i l.invariant.0 _ refl l.invariant.3 (omega (arith, l.invariant.2)) _ _ _ e.value e.buffer_after e.out_after l.out l.at) ∙ l.invariant.6,
       sym (turn_tally l.c a.capture.now l.buffer l.scratch l.i l.invariant.0 _ refl l.invariant.3 (omega (arith, l.invariant.2)) _ _ _ e.value e.buffer_after e.out_after) ∙ l.invariant.7,
     )
+
+pub returns-in-Err : goal.returns-in-Err
+returns-in-Err c =
+    let l = c.loop-i in
+    absurd (none_refused l.c _ l.buffer l.scratch l.invariant.3 (omega (arith, l.invariant.2)) _ c.in-Err.ensures.value)
 
 pub returns : goal.returns
 unfolding converted

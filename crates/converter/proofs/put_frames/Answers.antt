@@ -3,7 +3,7 @@ use Rattle.std.proofs.Common.{ℕ, Bool, List, ◌≡◌, ◌+◌, ◌-◌, ◌�
 use Rattle.converter.proofs.Rules.{Within, rule_rules}
 use Rattle.converter.proofs.Turns.{cap_is, answered, gist_within, put_out, put_behind, put_long, put_fits, within-length}
 use Rattle.converter.specs.Convert.{report_text, counted}
-use Rattle.converter.specs.Gist.{source_rules, rule_of}
+use Rattle.converter.specs.Gist.{source_rules, rule_of, gist_of}
 use Rattle.deframer.proofs.TextTurns.{Turn, onwards, start_inv, turn_full, turn_within, turn_ends, turn_takes, turn-goes}
 use Rattle.deframer.specs.Scan.{opened, scanned}
 use Rattle.converter.specs.declared.Tally.{Tally}
@@ -65,7 +65,7 @@ put-at-requires c =
     let l = k.loop-at in
     let a = k.args in
     let p = k in
-    let g = c.gist-gist.ensures in
+    let g = (c.gist-gist.ensures ∙ ap (gist_of c.args.c.to_kiss c.args.c.level) c.in-Some.ensures.1) in
     let w = gist_within a.c k.scan-scanned.result.state in
     let n = length-drop l.at l.out in (
       p.requires.0,
@@ -81,7 +81,7 @@ overflow_add-at c =
     let l = k.loop-at in
     let a = k.args in
     let q = c.put-at.ensures in
-    omega (arith, l.invariant.2, k.well_formed.1.1.1.0, put_fits a.c k.scan-scanned.result.state l.tally _ l.out l.at room _ c.gist-gist.ensures _ c.length.ensures _ _ q.value q.out_after)
+    omega (arith, l.invariant.2, k.well_formed.1.1.1.0, put_fits a.c k.scan-scanned.result.state l.tally _ l.out l.at room _ (c.gist-gist.ensures ∙ ap (gist_of c.args.c.to_kiss c.args.c.level) c.in-Some.ensures.1) _ c.length.ensures _ _ q.value q.out_after)
 
 pub loop-at-smaller : goal.loop-at-smaller
 loop-at-smaller c =
@@ -90,7 +90,7 @@ loop-at-smaller c =
     let e = c.scan-scanned.ensures in
     let turn = turn_of c.args.c.to_kiss c.args.c.level c.source_rule-rule.ensures c.loop-at.invariant.0 segment room c.loop-at.invariant.3 e.value e.buffer_after in
     let k = c in
-    omega (arith, turn_within _ _ _ _ _ _ turn, turn_takes _ _ _ _ _ _ turn c.if-scanned.true)
+    omega (arith, turn_within _ _ _ _ _ _ turn, turn_takes _ _ _ _ _ _ turn c.in-Some.ensures.0)
 
 pub loop-at-preserved : goal.loop-at-preserved
 loop-at-preserved c =
@@ -104,10 +104,10 @@ loop-at-preserved c =
     let to_kiss = a.c.to_kiss in
     let s = k.scan-scanned.result.state in
     let q = c.put-at.ensures in
-    let g = c.gist-gist.ensures in
+    let g = (c.gist-gist.ensures ∙ ap (gist_of c.args.c.to_kiss c.args.c.level) c.in-Some.ensures.1) in
     let n = c.length.ensures in
     let z = c.opened-state.ensures ∙ ap opened k.source_rule-rule.ensures in
-    let goes = turn-goes _ _ _ _ _ _ turn c.if-scanned.true _ g _ _ _ _ z c.with-tally.ensures
+    let goes = turn-goes _ _ _ _ _ _ turn c.in-Some.ensures.0 _ g _ _ _ _ z c.with-tally.ensures
     (put_out a.c s l.tally _ l.out l.at room _ g _ n _ _ q.value q.out_after) (put_behind a.c s l.tally _ l.out l.at room _ g _ n _ _ q.value q.out_after) in (
       turn_within _ _ _ _ _ _ turn,
       k.scan-scanned.auto.buffer ∙ l.invariant.1,
@@ -115,8 +115,8 @@ loop-at-preserved c =
       goes,
     )
 
-pub returns-else-scanned : goal.returns-else-scanned
-returns-else-scanned c =
+pub returns-in_default : goal.returns-in_default
+returns-in_default c =
     let room : c.loop-at.at + max_frame ≤ length c.loop-at.out = (let p = c in omega (arith, c.loop-at-test.true, c.loop-at.invariant.2, p.requires.1)) in
     let segment : max_segment ≤ length c.loop-at.buffer = (let p = c in omega (arith, c.loop-at.invariant.1, p.requires.2)) in
     let e = c.scan-scanned.ensures in
@@ -124,7 +124,7 @@ returns-else-scanned c =
     let k = c in
     let l = k.loop-at in
     let a = k.args in
-    let all = answered a.c _ _ l.tally _ l.out _ l.at _ (turn_ends _ _ _ _ _ _ turn c.if-scanned.false) c.later.ensures in
+    let all = answered a.c _ _ l.tally _ l.out _ l.at _ (turn_ends _ _ _ _ _ _ turn c.in_default.ensures) c.later.ensures in
     record { value = all.0; buffer_after = all.1; out_after = all.2 }
 
 pub returns : goal.returns

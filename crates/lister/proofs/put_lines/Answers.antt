@@ -10,7 +10,7 @@ use Rattle.framing.specs.Rules.{State}
 use Rattle.line.specs.Gather.{Gathered, later}
 use Rattle.line.specs.Texts.{Texts}
 use Rattle.lister.proofs.Rules.{cap_is, rule_rules, verdict_within}
-use Rattle.lister.specs.Entries.{source_rules, rule_of, entry_length, line_of, counted}
+use Rattle.lister.specs.Entries.{source_rules, rule_of, entry_of, entry_length, line_of, counted}
 use Rattle.lister.specs.Lines.{progress_of}
 use Rattle.listing.specs.Line.{max_line}
 use Rattle.listing.specs.declared.Entry.{Entry}
@@ -58,8 +58,8 @@ put-at-requires c =
     let segment : max_segment ≤ length c.loop-at.buffer = (omega (arith, c.loop-at.invariant.1, c.requires.1)) in
     let k = c in
     let a = k.args in
-    let s = k.scan-scanned.result.state in
-    let few = subst (λ (p : Entry). entry_length p ≤ max_data) (sym c.entry-entry.ensures) (verdict_within a.l.kiss a.l.level s.pending s.bad s.count s.check) in
+    let s = k.in-Some.segment in
+    let few = subst (λ (p : Entry). entry_length p ≤ max_data) (sym c.entry.ensures) (verdict_within a.l.kiss a.l.level s.pending s.bad s.count s.check) in
     (few, omega (arith, k.scan-scanned.auto.buffer, segment), room)
 
 pub loop-at-smaller : goal.loop-at-smaller
@@ -69,7 +69,7 @@ loop-at-smaller c =
     let e = c.scan-scanned.ensures in
     let turn = turn_of c.args.l.kiss c.args.l.level c.source_rule-rule.ensures c.loop-at.invariant.0 segment room c.loop-at.invariant.3 e.value e.buffer_after in
     let k = c in
-    omega (arith, turn_within _ _ _ _ _ _ turn, turn_takes _ _ _ _ _ _ turn c.if-scanned.true)
+    omega (arith, turn_within _ _ _ _ _ _ turn, turn_takes _ _ _ _ _ _ turn c.in-Some.ensures.0)
 
 pub loop-at-preserved : goal.loop-at-preserved
 loop-at-preserved c =
@@ -83,17 +83,17 @@ loop-at-preserved c =
     let z = c.opened-state.ensures ∙ ap opened k.source_rule-rule.ensures in (
       turn_within _ _ _ _ _ _ turn,
       k.scan-scanned.auto.buffer ∙ t.invariant.1,
-      ap length p.out_after ∙ length-sets t.out t.at (line_of k.args.l.kiss t.n c.entry-entry.result k.scan-scanned.new.buffer) ∙ t.invariant.2,
-      turn-goes _ _ _ _ _ _ turn c.if-scanned.true _ c.entry-entry.ensures _ _ _ _ z refl p.out_after p.value,
+      ap length p.out_after ∙ length-sets t.out t.at (line_of k.args.l.kiss t.n c.entry.result k.scan-scanned.new.buffer) ∙ t.invariant.2,
+      turn-goes _ _ _ _ _ _ turn c.in-Some.ensures.0 _ (c.entry.ensures ∙ ap (entry_of k.args.l.kiss k.args.l.level) c.in-Some.ensures.1) _ _ _ _ z refl p.out_after p.value,
     )
 
-pub returns-else-scanned : goal.returns-else-scanned
-returns-else-scanned c =
+pub returns-in_default : goal.returns-in_default
+returns-in_default c =
     let room : c.loop-at.at + max_line ≤ length c.loop-at.out = (omega (arith, c.loop-at-test.true, c.loop-at.invariant.2, c.requires.0)) in
     let segment : max_segment ≤ length c.loop-at.buffer = (omega (arith, c.loop-at.invariant.1, c.requires.1)) in
     let e = c.scan-scanned.ensures in
     let turn = turn_of c.args.l.kiss c.args.l.level c.source_rule-rule.ensures c.loop-at.invariant.0 segment room c.loop-at.invariant.3 e.value e.buffer_after in
-    let all = ended _ (turn_ends _ _ _ _ _ _ turn c.if-scanned.false) in
+    let all = ended _ (turn_ends _ _ _ _ _ _ turn c.in_default.ensures) in
     record { value = all.0; buffer_after = all.1; out_after = all.2 }
 
 pub returns : goal.returns

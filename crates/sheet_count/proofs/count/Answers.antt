@@ -1,14 +1,17 @@
--- `sheet_count::count` meets its contract: the refusal, and a capture in one chunk. Assumes nothing.
-use Rattle.std.proofs.Common.{ℕ, ◌∙◌, arith, replicate}
+-- `sheet_count::count` meets its contract: a capture in one chunk, and the refusal. Assumes nothing.
+use Rattle.std.proofs.Common.{ℕ, ◌≤◌, ◌∙◌, ap, arith, length, replicate}
 use lib.ListN.{length-replicate}
 use Rattle.qaft.specs.Limits.{max_segment}
-use Rattle.sheet_count.proofs.Whole.{count-bad_level, count_made}
+use Rattle.sheet_count.proofs.Whole.{count_made, count_refused}
+use Rattle.sheet_count.specs.Count.{refused}
 use Rattle.sheet_count.proofs.count.Goals as goal
 
-pub returns-then-level-gt-MAX_LEVEL : goal.returns-then-level-gt-MAX_LEVEL
-returns-then-level-gt-MAX_LEVEL c = c.refused.ensures ∙ count-bad_level _ _ c.if-level-gt-MAX_LEVEL.true
+-- the buffer has room for a segment
+room : max_segment ≤ length (replicate {A = ℕ} max_segment 0)
+room = omega (arith, length-replicate {A = ℕ} max_segment 0)
 
-pub returns : goal.returns
-returns c =
-    let call = c in
-    count_made _ _ call.if-level-gt-MAX_LEVEL.false (replicate {A = ℕ} max_segment 0) (omega (arith, length-replicate {A = ℕ} max_segment 0)) _ _ _ call.new-fresh.ensures call.count-counted.ensures.value c.counts.ensures
+pub returns-in-Ok : goal.returns-in-Ok
+returns-in-Ok c = c.counts.ensures ∙ count_made _ _ _ room _ c.new.ensures _ c.in-Ok.ensures.value
+
+pub returns-in-Err : goal.returns-in-Err
+returns-in-Err c = c.refused.ensures ∙ ap refused c.number.ensures ∙ count_refused _ _ _ room _ c.new.ensures _ c.in-Err.ensures.value

@@ -10,7 +10,7 @@ use Rattle.deframer.specs.declared.State as declared
 use Rattle.framing.specs.Closing.{closing}
 use Rattle.framing.specs.Rules.{State}
 use Rattle.line.specs.Gather.{Gathered, later}
-use Rattle.qaft_rules.specs.Rules.{rules}
+use Rattle.qaft_rules.specs.Rules.{rules, verdict}
 use Rattle.qaft.specs.Limits.{sum_kind}
 use Rattle.qaft_read.proofs.SharedRule.{rule_rules}
 use Rattle.qaft_read.specs.Scanned.{rule as qaft_rule}
@@ -53,7 +53,7 @@ loop-i-smaller c =
     let same = same_rules _ _ c.rule-rule.ensures in
     let long : (c.rule-rule.result).cap ≤ length at.buffer = omega (arith, at.invariant.1, c.requires, ap (λ (r : Rule). r.cap) c.rule-rule.ensures) in
     let turn = turn_of _ _ same at.invariant.0 long (at.invariant.2 _ same) e.value e.buffer_after in
-    omega (arith, turn_within _ _ _ _ _ turn, turn_takes _ _ _ _ _ turn c.if-scanned.true)
+    omega (arith, turn_within _ _ _ _ _ turn, turn_takes _ _ _ _ _ turn c.in-Some.ensures.0)
 
 pub loop-i-preserved : goal.loop-i-preserved
 loop-i-preserved c =
@@ -61,19 +61,19 @@ loop-i-preserved c =
     let e = c.scan-scanned.ensures in
     let same = same_rules _ _ c.rule-rule.ensures in
     let long : (c.rule-rule.result).cap ≤ length at.buffer = omega (arith, at.invariant.1, c.requires, ap (λ (r : Rule). r.cap) c.rule-rule.ensures) in
-    let w = c.with_report-found.ensures ∙ ap (λ (p : Report). with_report at.found p c.scan-scanned.new.buffer) c.report_on.ensures in (
+    let w = c.with_report-found.ensures ∙ ap (λ (p : Report). with_report at.found p c.scan-scanned.new.buffer) (c.report_on.ensures ∙ ap (λ (s : declared.State). verdict sum_kind s.pending s.bad s.count s.check) c.in-Some.ensures.1) in (
       turn_within _ _ _ _ _ (turn_of _ _ same at.invariant.0 long (at.invariant.2 _ same) e.value e.buffer_after),
       c.scan-scanned.auto.buffer ∙ at.invariant.1,
-      λ level k. turn-goes _ _ _ _ _ (turn_of _ level k at.invariant.0 long (at.invariant.2 level k) e.value e.buffer_after) c.if-scanned.true _ _ c.opened-state.ensures w,
+      λ level k. turn-goes _ _ _ _ _ (turn_of _ level k at.invariant.0 long (at.invariant.2 level k) e.value e.buffer_after) c.in-Some.ensures.0 _ _ c.opened-state.ensures w,
     )
 
-pub returns-else-scanned : goal.returns-else-scanned
-returns-else-scanned c =
+pub returns-in_default : goal.returns-in_default
+returns-in_default c =
     let at = c.loop-i in
     let e = c.scan-scanned.ensures in
     let same = same_rules _ _ c.rule-rule.ensures in
     let long : (c.rule-rule.result).cap ≤ length at.buffer = omega (arith, at.invariant.1, c.requires, ap (λ (r : Rule). r.cap) c.rule-rule.ensures) in
-    let both = ended _ (turn_ends _ _ _ _ _ (turn_of _ _ same at.invariant.0 long (at.invariant.2 _ same) e.value e.buffer_after) c.if-scanned.false) in
+    let both = ended _ (turn_ends _ _ _ _ _ (turn_of _ _ same at.invariant.0 long (at.invariant.2 _ same) e.value e.buffer_after) c.in_default.ensures) in
     record { value = both.0; buffer_after = both.1 }
 
 pub returns : goal.returns

@@ -1,19 +1,8 @@
--- `converter::Converter::convert` meets its contract: one law a refusal, and one for a call that is not refused. Assumes nothing.
+-- `converter::Converter::convert` meets its contract: an out buffer that is too small, and a call that is not refused. Assumes nothing.
 use Rattle.std.proofs.Common.{ℕ, sym, ap, ◌∙◌}
-use Rattle.converter.proofs.Refusals.{convert-bad_level, convert-too_small, convert-buffer_too_small, convert_gathered}
+use Rattle.converter.proofs.Refusals.{convert-too_small, convert_gathered}
 use Rattle.converter.specs.Convert.{Call, refusal}
 use Rattle.converter.proofs.Converter.convert.Goals as goal
-
-pub returns-then-self-gt-MAX_LEVEL : goal.returns-then-self-gt-MAX_LEVEL
-unfolding refusal
-returns-then-self-gt-MAX_LEVEL c =
-    let a = c.args in
-    let e = convert-bad_level a.self a.chunk.now a.buffer.now a.out.now c.if-self-gt-MAX_LEVEL.true in
-    record {
-      value = c.refused.ensures ∙ sym (ap (λ (k : Call). k.answer) e);
-      buffer_after = sym (ap (λ (k : Call). k.buffer) e);
-      out_after = sym (ap (λ (k : Call). k.out) e);
-    }
 
 pub returns-then-out-lt-MAX_FRAME : goal.returns-then-out-lt-MAX_FRAME
 unfolding refusal
@@ -21,18 +10,7 @@ returns-then-out-lt-MAX_FRAME c =
     let a = c.args in
     let e = convert-too_small a.self a.chunk.now a.buffer.now a.out.now c.if-self-gt-MAX_LEVEL.false c.if-out-lt-MAX_FRAME.true in
     record {
-      value = c.refused-then-out-lt-MAX_FRAME.ensures ∙ ap (λ (n : ℕ). record { number = n; taken = 0; length = 0; converter = a.self }) c.too_small.ensures ∙ sym (ap (λ (k : Call). k.answer) e);
-      buffer_after = sym (ap (λ (k : Call). k.buffer) e);
-      out_after = sym (ap (λ (k : Call). k.out) e);
-    }
-
-pub returns-then-buffer-lt-MAX_SEGMENT : goal.returns-then-buffer-lt-MAX_SEGMENT
-unfolding refusal
-returns-then-buffer-lt-MAX_SEGMENT c =
-    let a = c.args in
-    let e = convert-buffer_too_small a.self a.chunk.now a.buffer.now a.out.now c.if-self-gt-MAX_LEVEL.false c.if-out-lt-MAX_FRAME.false c.if-buffer-lt-MAX_SEGMENT.true in
-    record {
-      value = c.refused-then-buffer-lt-MAX_SEGMENT.ensures ∙ sym (ap (λ (k : Call). k.answer) e);
+      value = ap (λ (n : ℕ). record { number = n; taken = 0; length = 0; converter = a.self }) c.too_small.ensures ∙ sym (ap (λ (k : Call). k.answer) e);
       buffer_after = sym (ap (λ (k : Call). k.buffer) e);
       out_after = sym (ap (λ (k : Call). k.out) e);
     }
