@@ -190,7 +190,5 @@ fn put(octets: &[u8], out: &mut [u8], at: usize) -> usize
     requires { at + length octets.now ≤ length out.old }
     ensures { (result ≡ at + length octets.now) × (out.new ≡ sets out.old at octets.now) }
 {
-    let end = at + octets.len();
-    out[at..end].copy_from_slice(octets);
-    end
+    octets::put(octets, out, at)
 }

@@ -110,7 +110,11 @@ impl Queue {
         if count < n {
             return self;
         }
-        self.slots.copy_within(n..count, 0);
+        // of `copy_within` the compiler makes a call of memmove, as of the slice's copy (crate octets)
+        let before = self.slots;
+        for i in 0..count - n {
+            self.slots[i] = before[n + i];
+        }
         self.count = count - n;
         self
     }
@@ -128,10 +132,10 @@ fn payload_of(p: &[u8]) -> Payload
     requires { length p.now ≤ max_payload }
     ensures { (result.len ≡ length p.now) × (octets_of result ≡ p.now) }
 {
-    let mut octets = [0; MAX_PAYLOAD];
-    octets[..p.len()].copy_from_slice(p);
+    let mut slot = [0; MAX_PAYLOAD];
+    octets::put(p, &mut slot, 0);
     Payload {
         len: p.len(),
-        octets,
+        octets: slot,
     }
 }

@@ -1,4 +1,4 @@
--- `put`: a test for room, and the copy. Assumes nothing.
+-- `put`: a test for room, and the loop. Assumes nothing.
 use Rattle.std.proofs.Common.{sym, ap, ◌∙◌, leb-false, leb-true}
 use Rattle.octets.proofs.Putting.{end_fits, part_fits, into_none, end_none}
 use borrow.Rule.Slice.PartMut.{put_mid}
@@ -17,5 +17,5 @@ returns c =
     let h = leb-true _ _ (sym c.has_room.ensures ∙ c.if-not-has_room.false) in
     record {
       value = sym (end_fits _ _ _ h);
-      out_after = ap (put_mid _ _ _) c.copy_from_slice.ensures.after ∙ part_fits _ _ _ h;
+      out_after = ap (put_mid _ _ _) c.copy_summed.ensures.out_after ∙ part_fits _ _ _ h;
     }
