@@ -30,12 +30,14 @@ fn longest_fits(head: usize, octets: usize, tail: usize, room: usize) -> bool
     tail < (room / 2).saturating_sub(head).saturating_sub(octets)
 }
 
-// What octets, escaped, leave of `room`; 0 where they do not fit.
+// What octets, escaped, leave of `room`; 0 where they do not fit. Where they do not even as they are, none of them is looked at.
 fn left(e: Escapes, octets: &[u8], room: usize) -> usize
     ensures { result ≡ room - length (escaped (writing_of e) octets.now) }
 {
-    room.saturating_sub(octets.len())
-        .saturating_sub(escape_count(e, octets))
+    if room < octets.len() {
+        return 0;
+    }
+    (room - octets.len()).saturating_sub(escape_count(e, octets))
 }
 
 // How many of the octets are escaped, and so take one more each on the line.
