@@ -6,3 +6,4 @@ pub mod Turns
 pub mod TextTurns
 pub mod Steps
 pub mod Ahead
+pub mod Dropped

@@ -4,7 +4,8 @@
 // where many are escaped: pairs.rt.
 #![tactic(auto)]
 
-ghost use Rattle.std.specs.Prelude.{◌≡◌, not, ◌||◌, ◌≤◌, length, true, false, MatchOption};
+ghost use Rattle.std.specs.Prelude.{◌≡◌, not, ◌||◌, ◌≤◌, ◌==◌, cond, length, true, false, MatchOption};
+ghost use Rattle.std.specs.List.{prefix_len};
 ghost use Rattle.framing.specs.Step.{next, malformed};
 ghost use Rattle.deframer.specs.Rule.{is_skipped, partner_of, is_bad_pair, rules_of};
 ghost use Rattle.deframer.specs.Scan.{view, opened, joined, stored, in_segment, closed, step, scanned, scan_call};
@@ -50,7 +51,13 @@ impl State {
     fn by_fields(self) -> State
         ensures { result ≡ self }
     {
-        State { ..self }
+        State {
+            synced: self.synced,
+            pending: self.pending,
+            bad: self.bad,
+            count: self.count,
+            check: self.check,
+        }
     }
 }
 
@@ -104,7 +111,7 @@ impl Rule {
         ensures buffer_after { buffer.new ≡ (scan_call self state chunk.now buffer.old).buffer }
     {
         let mut s = state;
-        let mut i = 0;
+        let mut i = self.dropped(state, chunk);
         while i < chunk.len() {
             let n = run::run_length(self, s, &chunk[i..]);
             let end = i + n;
@@ -139,6 +146,16 @@ impl Rule {
             taken: i,
             state: s,
         }
+    }
+
+    // How many octets of a chunk stand before the line's first flag: they are dropped at once, since the loop's turns take far longer.
+    fn dropped(self, s: State, chunk: &[u8]) -> usize
+        ensures { result ≡ cond s.synced 0 (prefix_len (λ x. not (x == self.escapes.flag)) chunk.now) }
+    {
+        if s.synced {
+            return 0;
+        }
+        before_flag(self.escapes.flag, chunk)
     }
 
     // One octet of the line. Octets before the first flag are dropped.
@@ -285,4 +302,11 @@ impl Rule {
         }
         false
     }
+}
+
+// The octets before the first flag; all where there is none.
+fn before_flag(flag: u8, octets: &[u8]) -> usize
+    ensures { result ≡ prefix_len (λ x. not (x == flag)) octets.now }
+{
+    octets.iter().take_while(|x| **x != flag).count()
 }

@@ -15,10 +15,11 @@ pub(crate) fn run_length(rule: Rule, s: State, octets: &[u8]) -> usize
     ensures upper_bound { result ≤ length octets.now }
     ensures run { 0 < result → Run (rules_of «rule») (view s) (take result octets.now) }
 {
-    if s.pending || !s.synced {
+    let cap = usize::from(rule.cap);
+    if s.pending || !s.synced || cap <= s.count {
         return 0;
     }
-    let room = usize::from(rule.cap).saturating_sub(s.count);
+    let room = cap - s.count;
     let front = &octets[..room.min(octets.len())];
     rule.escapes.plain_length(front)
 }

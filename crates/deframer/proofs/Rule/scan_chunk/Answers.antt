@@ -1,6 +1,7 @@
 use Rattle.std.proofs.Common.{◌≡◌, ℕ, ◌+◌, ◌≤◌, length, drop, get_or, refl, sym, ap, ◌∙◌, arith}
 use Rattle.std.proofs.Math.ListN.{length-set}
 use Rattle.deframer.proofs.Ahead.{ahead_turn, ahead_within}
+use Rattle.deframer.proofs.Dropped.{dropped_ahead}
 use Rattle.deframer.proofs.Runs.{run_fits, run_turn}
 use Rattle.deframer.proofs.Steps.{line_action, step_line, step_index}
 use Rattle.deframer.specs.Rule.{rules_of}
@@ -8,7 +9,7 @@ use Rattle.deframer.specs.Scan.{view, outcome_of, scan_call}
 use Rattle.deframer.specs.declared.Action.{Action}
 use Rattle.framing.specs.Rules as rules
 use Rattle.framing.specs.Step.{step}
-use Rattle.line.proofs.Scan.{after_zero, scan_end, scan_advance, scan_store, scan_emit}
+use Rattle.line.proofs.Scan.{scan_end, scan_advance, scan_store, scan_emit}
 use Rattle.line.specs.Scan.{Scan, after, scan}
 use Rattle.deframer.proofs.Rule.scan_chunk.Goals as goal
 use Rattle.deframer.proofs.Rule.scan_chunk.Goals.{After-with_run-s, After-step-action}
@@ -36,7 +37,9 @@ taken_action : (c : After-step-action) (a : Action) → c.step-action.result ≡
 taken_action c a e = step_line _ _ _ a (sym c.step-action.ensures ∙ e)
 
 pub loop-i-init : goal.loop-i-init
-loop-i-init c = (omega arith, refl, after_zero _)
+loop-i-init c =
+    let d = dropped_ahead c.args.self c.args.state _ c.args.chunk.now c.args.buffer.now c.dropped-i.ensures in
+    (d.0, refl, d.1)
 
 pub loop-i-preserved-in-Advance : goal.loop-i-preserved-in-Advance
 loop-i-preserved-in-Advance c =

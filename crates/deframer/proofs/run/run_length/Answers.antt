@@ -18,5 +18,5 @@ returns c =
       upper_bound = omega (arith, w, l, e, h);
       run = λ some.
           (run_found_within r s (grind (arith, c.if-not-s.false)) c.if-s.false xs c.plain_length.result k h
-          (omega (arith, some, w, l, e, c.min.ensures, c.saturating_sub-room.ensures, c.from.ensures)) e).1 some;
+          (omega (arith, some, w, l, e, c.min.ensures, c.if-cap-s.false, c.from-cap.ensures)) e).1 some;
     }
