@@ -10,9 +10,6 @@ ghost use Rattle.text.specs.Room.{text_into, text_end};
 
 use sheet::{Counts, Tally};
 
-// The number of an answer that is no refusal.
-const DONE: u8 = 0;
-
 #[unsafe(no_mangle)]
 pub extern "C" fn hasfandur_sheet_count(level: u8, capture: &[u8]) -> Counts
     ensures { result ≡ count_call level capture.now }
@@ -31,10 +28,7 @@ pub extern "C" fn hasfandur_sheet_tally(
         × (table.new ≡ (tally_call table.old line (count_call level capture.now)).table) }
 {
     let counts = sheet_count::count(level, capture);
-    match sheet_table::tally(table, line, counts) {
-        Ok(()) => DONE,
-        Err(refusal) => refusal.number(),
-    }
+    sheet_table::tally_plain(table, line, counts)
 }
 
 #[unsafe(no_mangle)]

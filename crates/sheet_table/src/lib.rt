@@ -3,10 +3,13 @@
 #![tactic(auto)]
 
 ghost use Rattle.std.specs.Prelude.{◌≡◌, ◌≢◌, IfErr};
-ghost use Rattle.sheet.specs.Answers.{number_of, answer_number};
+ghost use Rattle.sheet.specs.Answers.{number_of, answer_number, IsFor};
 ghost use Rattle.sheet_table.specs.Table.{tally_call, sheet_of, sheet_answer};
 
 use sheet::{Counts, Refusal, Tally};
+
+// The number of an answer that is no refusal.
+const DONE: u8 = 0;
 
 // Adds a capture's counts to the record of its line. Past the table there is no record to judge: the refusals that look at none are
 // given here, in their order.
@@ -14,6 +17,7 @@ pub fn tally(table: &mut [Tally], line: usize, counts: Counts) -> Result<(), Ref
     ensures value { answer_number result ≡ (tally_call table.old line counts).number }
     ensures table_after { table.new ≡ (tally_call table.old line counts).table }
     ensures refused { IfErr result (λ e. number_of e ≢ 0) }
+    ensures case { IfErr result (IsFor counts.number) }
 {
     let lines = table.len();
     if line < lines {
@@ -26,6 +30,17 @@ pub fn tally(table: &mut [Tally], line: usize, counts: Counts) -> Result<(), Ref
     Err(Refusal::NoLine)
 }
 
+// The same, answered by its number, for C.
+pub fn tally_plain(table: &mut [Tally], line: usize, counts: Counts) -> u8
+    ensures value { result ≡ (tally_call table.old line counts).number }
+    ensures table_after { table.new ≡ (tally_call table.old line counts).table }
+{
+    match tally(table, line, counts) {
+        Ok(()) => DONE,
+        Err(refusal) => refusal.number(),
+    }
+}
+
 // The lines of a sheet after a capture, by value, for a caller that holds all of them: a program's main then lends nothing.
 pub fn tallied(
     lines: [Tally; sheet::LINES],
@@ -34,6 +49,7 @@ pub fn tallied(
 ) -> Result<[Tally; sheet::LINES], Refusal>
     ensures answer { sheet_answer lines result ≡ sheet_of lines line counts }
     ensures refused { IfErr result (λ e. number_of e ≢ 0) }
+    ensures case { IfErr result (IsFor counts.number) }
 {
     let mut table = lines;
     tally(&mut table, line, counts)?;

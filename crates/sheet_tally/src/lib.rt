@@ -2,7 +2,8 @@
 #![tactic(auto)]
 
 ghost use Rattle.std.specs.Prelude.{◌≡◌, ◌≢◌, IfErr};
-ghost use Rattle.sheet.specs.Answers.{number_of};
+ghost use Rattle.sheet.specs.Answers.{number_of, IsFor};
+ghost use Rattle.sheet.specs.declared.Refusal.TheVariants.{CountTooLarge};
 ghost use Rattle.sheet_tally.specs.Adding.{added_of, judged_of, answer_of};
 
 use sheet::{Counts, Refusal, Tally};
@@ -10,7 +11,7 @@ use sheet::{Counts, Refusal, Tally};
 // The sums, where none of them would pass 32 bits. A sum is made only where it fits, so none wraps.
 fn add(t: Tally, counts: Counts) -> Result<Tally, Refusal>
     ensures answer { answer_of t result ≡ added_of t counts }
-    ensures refused { IfErr result (λ e. number_of e ≢ 0) }
+    ensures refused { IfErr result (λ e. e ≡ CountTooLarge) }
 {
     let old = t.counts;
     let more = counts.counts;
@@ -30,6 +31,7 @@ fn add(t: Tally, counts: Counts) -> Result<Tally, Refusal>
 pub fn judged(t: Tally, line: usize, lines: usize, counts: Counts) -> Result<Tally, Refusal>
     ensures answer { answer_of t result ≡ judged_of t line lines counts }
     ensures refused { IfErr result (λ e. number_of e ≢ 0) }
+    ensures case { IfErr result (IsFor counts.number) }
 {
     if counts.number != 0 {
         return Err(Refusal::Uncounted(counts.number));

@@ -9,4 +9,4 @@ returns-in_err-tally c =
     let e : c.from_residual.result ≡ Err c.in_err-tally.field-0.0 = search rules in
     let said = c.in_err-tally.ensures in
     let kept = tally_refused a.lines a.line a.counts (λ z. said.refused (said.value ∙ z)) in
-    rw e (record { answer = λ i. record { number = said.value i; lines = sym kept i }; refused = said.refused })
+    rw e (record { answer = λ i. record { number = said.value i; lines = sym kept i }; refused = said.refused; case = said.case })
