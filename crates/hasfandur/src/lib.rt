@@ -22,7 +22,6 @@ pub extern "C" fn hasfandur_qaft_check(octets: &[u8]) -> u8
     qaft::check_octet(octets)
 }
 
-#[tactic(auto, using(qaft_write::proofs::Numbers::written_is))]
 #[unsafe(no_mangle)]
 pub extern "C" fn hasfandur_qaft_write(
     level: u8,
@@ -34,7 +33,7 @@ pub extern "C" fn hasfandur_qaft_write(
     ensures value { result ≡ (write_frame level check_kind at_flag «data».now out.old).answer }
     ensures out_after { out.new ≡ (write_frame level check_kind at_flag «data».now out.old).buffer }
 {
-    qaft_write::write_frame(level, check_kind, at_flag, data, out).into()
+    qaft_write::write_plain(level, check_kind, at_flag, data, out)
 }
 
 // The reader crosses in plain numbers: any number may come.

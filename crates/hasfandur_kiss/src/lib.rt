@@ -8,7 +8,6 @@ ghost use Rattle.kiss_read.specs.State.{fresh};
 ghost use Rattle.kiss_read.specs.Read.{read};
 ghost use Rattle.kiss_plain.specs.Plain.{reader_of, plain_of, answer_of};
 
-#[tactic(auto, using(qaft_write::proofs::Numbers::written_is))]
 #[unsafe(no_mangle)]
 pub extern "C" fn hasfandur_kiss_write(
     at_flag: bool,
@@ -18,7 +17,7 @@ pub extern "C" fn hasfandur_kiss_write(
     ensures value { result ≡ (write_frame at_flag payload.now out.old).answer }
     ensures out_after { out.new ≡ (write_frame at_flag payload.now out.old).buffer }
 {
-    kiss_write::write_frame(at_flag, payload, out).into()
+    kiss_write::write_plain(at_flag, payload, out)
 }
 
 #[unsafe(no_mangle)]

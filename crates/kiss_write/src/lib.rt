@@ -8,6 +8,7 @@ ghost use Rattle.kiss_write.specs.Write.{write_frame};
 
 use framer::Frame;
 use kiss::Refusal;
+use qaft_write::Written;
 
 // Writes one data frame of port 0 to the front of `out`; how many octets it has. `at_flag`: the line stands at a flag already, so
 // that the frame needs none to open it.
@@ -34,4 +35,13 @@ pub fn write_frame(at_flag: bool, payload: &[u8], out: &mut [u8]) -> Result<usiz
         return Err(Refusal::OutTooSmall);
     };
     Ok(length)
+}
+
+// The same, answered in numbers, for C.
+#[tactic(auto, using(qaft_write::proofs::Numbers::written_is))]
+pub fn write_plain(at_flag: bool, payload: &[u8], out: &mut [u8]) -> Written
+    ensures value { result ≡ (write_frame at_flag payload.now out.old).answer }
+    ensures out_after { out.new ≡ (write_frame at_flag payload.now out.old).buffer }
+{
+    write_frame(at_flag, payload, out).into()
 }

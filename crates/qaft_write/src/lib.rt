@@ -74,3 +74,12 @@ pub fn write_frame(
     };
     Ok(written)
 }
+
+// The same, answered in numbers, for C.
+#[tactic(auto, using(crate::proofs::Numbers::written_is))]
+pub fn write_plain(level: u8, check_kind: u8, at_flag: bool, data: &[u8], out: &mut [u8]) -> Written
+    ensures value { result ≡ (write_frame level check_kind at_flag «data».now out.old).answer }
+    ensures out_after { out.new ≡ (write_frame level check_kind at_flag «data».now out.old).buffer }
+{
+    write_frame(level, check_kind, at_flag, data, out).into()
+}
