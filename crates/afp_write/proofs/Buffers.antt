@@ -1,11 +1,11 @@
 -- What each function of the writer leaves in the buffer, by what the functions that it calls left there. Assumes nothing.
 use mathlib.Core.Path.{◌≡◌, sym, ap, ap₂, ◌∙◌}
 use mathlib.Core.List.{List, [], ◌∷◌, ◌++◌, append_assoc}
-use Prim.Native.Nat.{ℕ, ◌+◌, ◌≤◌}
+use Prim.Native.Nat.{ℕ, ◌+◌, ◌/◌, ◌%◌, ◌≤◌}
 use native.Mathlib.Omega.{arith}
 use lib.ListN.{length, take, length-append}
 use lib.Seq.{sets}
-use Rattle.fcs.specs.Fcs.{check_octets}
+use Rattle.fcs.specs.Fcs.{check_sequence, check_octets}
 use Rattle.stations.specs.declared.Next.{Next}
 use Rattle.sums.specs.Sum.{header_sum}
 use Rattle.stations.specs.Fields.{fields_at, stations_of, next_offset}
@@ -51,6 +51,11 @@ header_put p x s h out last o₁ o₂ e y ee f ye le g fits =
     let t : take e o₁ ≡ b = ap (take e) f ∙ take-with_front b out e (omega arith) in
     let z : last ≡ header_sum b ∷ [] = le ∙ ap (λ (y : ℕ). y ∷ []) (ye ∙ ap header_sum t) in
     g ∙ ap₂ (λ (o zs : List ℕ). sets o e zs) f z ∙ sets-with_front b (header_sum b ∷ []) out e (omega arith) (omega arith)
+
+-- the check octets, low octet first
+pub check_put : (out zs all : List ℕ) (k c : ℕ) → c ≡ check_sequence (take k out) → zs ≡ c % 256 ∷ c / 256 ∷ [] → all ≡ sets out k zs
+    → all ≡ sets out k (check_octets (take k out))
+check_put out zs all k c e z q = q ∙ ap (sets out k) (z ∙ ap (λ (c : ℕ). c % 256 ∷ c / 256 ∷ []) e)
 
 -- data and check octets after the header
 pub frame_put : (header d out o₁ o₂ o₃ : List ℕ) (e k : ℕ) → e ≡ length header → o₁ ≡ with_front header out → o₂ ≡ sets o₁ e d → k ≡ e + length d

@@ -1,9 +1,9 @@
 -- Laws of the parts of a whole capture, over lists alone. Assumes nothing.
-use Prim.Native.Nat.{ℕ, suc, ◌+◌, ◌≤◌, ◌<◌}
+use Prim.Native.Nat.{ℕ, zero, suc, ◌+◌, ◌-◌, ◌≤◌, ◌<◌}
 use mathlib.Core.Bool.{Bool, true, false, cond}
 use mathlib.Core.List.{List, [], ◌∷◌, ◌++◌}
 use mathlib.Core.Path.{◌≡◌, refl, sym, ap, ◌∙◌}
-use native.Mathlib.Nat.{zero-add}
+use native.Mathlib.Nat.{zero-add, le_of_suc-le-suc}
 use native.Mathlib.Numerals.{add-one}
 use native.Mathlib.Omega.{arith}
 use lib.Dec.{eqb}
@@ -160,3 +160,34 @@ module _ (flag : ℕ) where
               → (r ≤ 1) × (n + r + flags flag (drop (i + 1) l) ≡ flags flag l)
           go true e k = (omega (arith, e), omega (arith, e, k, inv))
           go false e k = (omega (arith, e), omega (arith, e, k, inv))
+
+  -- ---- the last flag by its index
+  has_flag-at : (l : List ℕ) (i : ℕ) → i < length l → eqb (get_or l i 0) flag ≡ true → has_flag flag l ≡ true
+  unfolding has_flag
+  has_flag-at [] i h e = let z : ⊥ = omega (arith, h) in absurd z
+  has_flag-at (x ∷ l) zero h e = rw e
+  has_flag-at (x ∷ l) (suc i) h e = go (eqb x flag) (has_flag-at l i (le_of_suc-le-suc h) e)
+    where
+      go : (b : Bool) → has_flag flag l ≡ true → cond b true (has_flag flag l) ≡ true
+      go true ih = refl
+      go false ih = ih
+
+  pub after_at_lem : (l : List ℕ) (i : ℕ) → i < length l → eqb (get_or l i 0) flag ≡ true → has_flag flag (drop (suc i) l) ≡ false → after flag l ≡ length l - suc i
+  unfolding after
+  after_at_lem [] i h e k = let z : ⊥ = omega (arith, h) in absurd z
+  after_at_lem (x ∷ l) zero h e k = rw (k, e) (omega arith)
+  after_at_lem (x ∷ l) (suc i) h e k =
+      let r = le_of_suc-le-suc h in
+      let n = after_at_lem l i r e k in
+      rw (has_flag-at l i r e) (omega (arith, n))
+
+  -- the last n octets have no flag
+  abbrev pub Bare : List ℕ → ℕ → Type 0
+  Bare l n = has_flag flag (drop (length l - n) l) ≡ false
+
+  pub bare_flag : (l : List ℕ) (n : ℕ) → n < length l → Bare l n → eqb (get_or l (length l - 1 - n) 0) flag ≡ true → n ≡ after flag l
+  bare_flag l n h bare e =
+      let i = length l - 1 - n in
+      let z : length l - n ≡ suc i = omega arith in
+      let k = after_at_lem l i (omega arith) e (ap (λ (j : ℕ). has_flag flag (drop j l)) (sym z) ∙ bare) in
+      omega (arith, k)

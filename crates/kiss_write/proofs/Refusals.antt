@@ -1,10 +1,10 @@
--- The frame writer's cases behind its first refusals: an out buffer that is too small, and the frame written; what is known of a call that is answered with 0. Assumes nothing.
+-- The frame writer's cases: each refusal, and the frame written; what is known of a call that is answered with 0. Assumes nothing.
 use Prim.Native.Nat.{ℕ, ◌≤◌, ◌<◌}
 use mathlib.Core.Bool.{Bool}
 use mathlib.Core.List.{List, [], ◌∷◌, ◌++◌, append-nil}
 use mathlib.Core.Path.{◌≡◌, refl, ap, ◌∙◌}
 use native.Mathlib.Omega.{arith}
-use borrow.Author.Tests.{lt-ltb, le-ltb, ne_eqb, ltb-false, eqb-false}
+use borrow.Author.Tests.{lt-ltb, le-ltb, eq-eqb, ne_eqb, ltb-false, eqb-false}
 use lib.ListN.{length}
 use Rattle.common.proofs.Refusals.{Passed, guarded_passed}
 use Rattle.escapes.specs.declared.Escapes.{Escapes}
@@ -18,7 +18,7 @@ use Rattle.kiss.specs.Limits.{max_frame}
 use Rattle.kiss.specs.Octets.{writing, data_type}
 use Rattle.kiss.specs.Octets as kiss
 use Rattle.kiss_write.specs.Write.{refusals, write_frame}
-use Rattle.qaft.specs.Answers.{done}
+use Rattle.qaft.specs.Answers.{done, no_data, data_too_long}
 use Rattle.qaft.specs.Limits.{max_data}
 use Rattle.qaft_write.proofs.Answer.{answered_unfit, answered_fit}
 use Rattle.qaft_write.proofs.Sending.{Wrote}
@@ -26,7 +26,15 @@ use Rattle.qaft_write.specs.Answer.{Outcome, refusal, wrote}
 use Rattle.qaft_write.specs.declared.Written.{Written}
 
 module _ (at_flag : Bool) (d out : List ℕ) where
+  pub write-no_data : length d ≡ 0 → write_frame at_flag d out ≡ refusal out no_data
+  unfolding write_frame refusals
+  write-no_data e = simp (eq-eqb _ _ e)
+
   module _ (some : length d ≡ 0 → ⊥) where
+    pub write-data_too_long : max_data < length d → write_frame at_flag d out ≡ refusal out data_too_long
+    unfolding write_frame refusals
+    write-data_too_long k = simp (ne_eqb _ _ some, lt-ltb _ _ k)
+
     module _ (k : length d ≤ max_data) where
       pub write-out_too_small : length out < length (frame at_flag d) → write_frame at_flag d out ≡ refusal out out_too_small
       unfolding write_frame refusals

@@ -1,10 +1,10 @@
--- The frame writer's cases behind its first refusals: an out buffer that is too small, and the frame written; what is known of a call that is answered with 0. Assumes nothing.
+-- The frame writer's cases: each refusal, and the frame written; what is known of a call that is answered with 0. Assumes nothing.
 use Prim.Native.Nat.{ℕ, ◌≤◌, ◌<◌}
 use mathlib.Core.Bool.{Bool}
 use mathlib.Core.List.{List, []}
 use mathlib.Core.Path.{◌≡◌, refl, ap, ap₂, ◌∙◌}
 use native.Mathlib.Omega.{arith}
-use borrow.Author.Tests.{lt-ltb, le-ltb, ne_eqb, ltb-false, eqb-false}
+use borrow.Author.Tests.{lt-ltb, le-ltb, eq-eqb, ne_eqb, ltb-false, eqb-false}
 use lib.ListN.{length}
 use Rattle.common.proofs.Refusals.{Passed, guarded_passed}
 use Rattle.escapes.specs.declared.Escapes.{Escapes}
@@ -12,7 +12,7 @@ use Rattle.framer.proofs.Written.{frame_some}
 use Rattle.framer.specs.Write.{framed, written_length, written_into}
 use Rattle.qaft.proofs.Escape.{frame-escapes_of}
 use Rattle.qaft.proofs.Frame.{frame_fits}
-use Rattle.qaft.specs.Answers.{done, out_too_small}
+use Rattle.qaft.specs.Answers.{done, no_data, data_too_long, out_too_small, bad_level, bad_kind}
 use Rattle.qaft.specs.Check.{check_by}
 use Rattle.qaft.specs.Escape.{writing, escapes_of}
 use Rattle.qaft.specs.Frame.{sealed, frame}
@@ -24,9 +24,25 @@ use Rattle.qaft_write.specs.Write.{refusals, write_frame}
 use Rattle.qaft_write.specs.declared.Written.{Written}
 
 module _ (level kind : ℕ) (at_flag : Bool) (d out : List ℕ) where
+  pub write-bad_level : max_level < level → write_frame level kind at_flag d out ≡ refusal out bad_level
+  unfolding write_frame refusals
+  write-bad_level h = simp (lt-ltb _ _ h)
+
   module _ (h : level ≤ max_level) where
+    pub write-bad_kind : max_kind < kind → write_frame level kind at_flag d out ≡ refusal out bad_kind
+    unfolding write_frame refusals
+    write-bad_kind k = simp (le-ltb _ _ h, lt-ltb _ _ k)
+
     module _ (q : kind ≤ max_kind) where
+      pub write-no_data : length d ≡ 0 → write_frame level kind at_flag d out ≡ refusal out no_data
+      unfolding write_frame refusals
+      write-no_data e = simp (le-ltb _ _ h, le-ltb _ _ q, eq-eqb _ _ e)
+
       module _ (some : length d ≡ 0 → ⊥) where
+        pub write-data_too_long : max_data < length d → write_frame level kind at_flag d out ≡ refusal out data_too_long
+        unfolding write_frame refusals
+        write-data_too_long k = simp (le-ltb _ _ h, le-ltb _ _ q, ne_eqb _ _ some, lt-ltb _ _ k)
+
         module _ (k : length d ≤ max_data) where
           pub write-out_too_small : length out < length (frame level kind at_flag d) → write_frame level kind at_flag d out ≡ refusal out out_too_small
           unfolding write_frame refusals

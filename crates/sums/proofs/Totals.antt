@@ -1,5 +1,5 @@
 -- Laws of totals. Assumes nothing.
-use Rattle.std.proofs.Common.{◌≡◌, ℕ, zero, suc, ◌+◌, ◌-◌, ◌*◌, ◌%◌, ◌<◌, List, [], ◌∷◌, ◌++◌, length, sum, get_or, sym, refl, ap, ◌∙◌, arith, eq-eqb, ne_eqb}
+use Rattle.std.proofs.Common.{◌≡◌, ℕ, zero, suc, ◌+◌, ◌-◌, ◌*◌, ◌%◌, ◌<◌, List, [], ◌∷◌, ◌++◌, length, sum, take, get_or, length-take-le, sym, refl, ap, ◌∙◌, arith, eq-eqb, ne_eqb}
 use Rattle.std.proofs.lemmas.List.Sums.{sum_by-cons}
 use Rattle.sums.proofs.Sum.{sum-++}
 use Rattle.sums.specs.Sum.{end_around_add, sum_from}
@@ -88,3 +88,7 @@ word_added v w (a ∷ b ∷ c ∷ d ∷ e₁ ∷ xs) ys h₀ h₁ h₂ h₃ l e 
 -- a chunk more
 pub chunk_added : (s : ℕ) (xs ys : List ℕ) (t : ℕ) → s < 256 → Totals xs t → sum_from s (xs ++ ys) ≡ sum_from (reduced (s + t)) ys
 chunk_added s xs ys t h e = sum-++ s xs ys ∙ ap (λ (v : ℕ). sum_from v ys) (e s h)
+
+-- a short slice without what is left behind its words: whole words, and still short
+pub whole_words : (xs : List ℕ) → length xs < 32 → (length (take (length xs - length xs % 4) xs) % 4 ≡ 0) × (length (take (length xs - length xs % 4) xs) < 32)
+whole_words xs h = let n = length-take-le (length xs - length xs % 4) xs (omega arith) in (omega arith, omega arith)
