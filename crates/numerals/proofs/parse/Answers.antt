@@ -17,21 +17,18 @@ returns-then-not-is_ascii_digit c =
 pub returns-in_err-checked_mul : goal.returns-in_err-checked_mul
 returns-in_err-checked_mul c =
     let l = c.loop-octet in
-    let d = c.if-not-is_ascii_digit.ensures.cases in
-    c.from_residual.ensures ∙ sym (typed_over c.args.word.now l.n l.octet-index c.loop-octet-test.true d (omega (arith, c.in_err-checked_mul.ensures))) ∙ l.invariant.1
+    c.from_residual.ensures ∙ sym (typed_over c.args.word.now l.n l.octet-index c.loop-octet-test.true c.if-not-is_ascii_digit.ensures.cases (omega (arith, c.in_err-checked_mul.ensures))) ∙ l.invariant.1
 
 pub returns-in_err-n : goal.returns-in_err-n
 returns-in_err-n c =
     let l = c.loop-octet in
-    let d = c.if-not-is_ascii_digit.ensures.cases in
-    c.from_residual-in_err-n.ensures ∙ sym (typed_over c.args.word.now l.n l.octet-index c.loop-octet-test.true d (omega (arith, c.in_err-n.ensures, c.in_ok-checked_mul.ensures, c.from-digit.ensures))) ∙ l.invariant.1
+    c.from_residual-in_err-n.ensures ∙ sym (typed_over c.args.word.now l.n l.octet-index c.loop-octet-test.true c.if-not-is_ascii_digit.ensures.cases (omega (arith, c.in_err-n.ensures, c.in_ok-checked_mul.ensures, c.from-digit.ensures))) ∙ l.invariant.1
 
 pub loop-octet-preserved : goal.loop-octet-preserved
 loop-octet-preserved c =
-    let l = c.loop-octet in
-    let d = c.if-not-is_ascii_digit.ensures.cases in (
+    let l = c.loop-octet in (
       omega (arith, c.in_ok-n.ensures),
-      typed_next c.args.word.now l.n l.octet-index c.loop-octet-test.true c.in_ok-n.n d (omega (arith, c.in_ok-n.ensures, c.in_ok-checked_mul.ensures, c.from-digit.ensures)) ∙ l.invariant.1,
+      typed_next c.args.word.now l.n l.octet-index c.loop-octet-test.true c.in_ok-n.n c.if-not-is_ascii_digit.ensures.cases (omega (arith, c.in_ok-n.ensures, c.in_ok-checked_mul.ensures, c.from-digit.ensures)) ∙ l.invariant.1,
     )
 
 pub returns : goal.returns
