@@ -69,9 +69,16 @@ module _ (level : ℕ) (l m : List ℕ) (room : max_segment ≤ length m) where
         let fits = ltb-false _ _ h in
         ap (λ (a : Counted). counts_in a.counter) a ∙ counts_the_capture level fits m room l (l ∷ []) (append-nil l) ∙ good fits)
 
+    -- a refusal has the number of the call
+    refused_by : (r : Refusal) → record { number = refusal_number r; counter = n } ≡ (count n l m).answer → refusal_number r ≡ (count fresh l m).answer.number
+    refused_by r e = ap (λ (a : Counted). a.number) (e ∙ ap (λ (n : Counter). (count n l m).answer) ne)
+
+    -- there is none at a level
+    pub never_refused : (r : Refusal) → record { number = refusal_number r; counter = n } ≡ (count n l m).answer → level ≤ max_level → ⊥
+    never_refused r e h = numbered r (refused_by r e ∙ number_good h)
+
     pub count_refused : (r : Refusal) → record { number = refusal_number r; counter = n } ≡ (count n l m).answer → refused (refusal_number r) ≡ count_call level l
     count_refused r e =
-        let number = ap (λ (a : Counted). a.number) (e ∙ ap (λ (n : Counter). (count n l m).answer) ne) in
         by_case (ltb max_level level)
-        (λ h. ap refused (number ∙ number_bad (ltb-true _ _ h)) ∙ bad (ltb-true _ _ h))
-        (λ h. absurd (numbered r (number ∙ number_good (ltb-false _ _ h))))
+        (λ h. ap refused (refused_by r e ∙ number_bad (ltb-true _ _ h)) ∙ bad (ltb-true _ _ h))
+        (λ h. absurd (never_refused r e (ltb-false _ _ h)))
