@@ -73,7 +73,7 @@ module _ (level : ℕ) (l m : List ℕ) (room : max_segment ≤ length m) where
     refused_by : (r : Refusal) → record { number = refusal_number r; counter = n } ≡ (count n l m).answer → refusal_number r ≡ (count fresh l m).answer.number
     refused_by r e = ap (λ (a : Counted). a.number) (e ∙ ap (λ (n : Counter). (count n l m).answer) ne)
 
-    -- there is none at a level
+    -- no call at a level is refused
     pub never_refused : (r : Refusal) → record { number = refusal_number r; counter = n } ≡ (count n l m).answer → level ≤ max_level → ⊥
     never_refused r e h = numbered r (refused_by r e ∙ number_good h)
 
